@@ -1,0 +1,6 @@
+pub mod Tests
+pub mod Split
+pub mod Alike
+pub mod Scan
+pub mod Back
+pub mod Bridge

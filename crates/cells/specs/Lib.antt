@@ -1,0 +1,4 @@
+pub mod Text
+pub mod Test
+pub mod Cells
+pub mod Code
