@@ -1,0 +1,10 @@
+pub mod Eight
+pub mod Sets
+pub mod Rows
+pub mod Columns
+pub mod Numbers
+pub mod Shape
+pub mod Print
+pub mod Back
+pub mod Laws
+pub mod Writing

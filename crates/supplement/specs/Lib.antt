@@ -1,0 +1,3 @@
+pub mod Supplement
+pub mod Amount
+pub mod Code
