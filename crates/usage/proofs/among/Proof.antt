@@ -1,0 +1,16 @@
+-- `usage::among` meets its contract: `cells::has` of the value that `cells::value` gives.
+use borrow.Author.Needs.{needs}
+use Rattle.usage.proofs.among.Statement.{statement}
+use Rattle.usage.proofs.among.Tie as tie
+
+value-requires : tie.Need-value-requires
+value-requires c κs = search needs
+
+has-requires : tie.Need-has-requires
+has-requires c κs = search needs
+
+returns : tie.Need-returns
+returns c = cc
+
+pub among-spec : {M : Type 1} → statement M
+among-spec = tie.close (tie.spec value-requires has-requires returns)

@@ -1,0 +1,46 @@
+-- `usage::clock_fault` meets its contract: the row as far as it is named, by `Masks.clock`.
+use native.Mathlib.Omega.{arith}
+use borrow.Author.Needs.{needs}
+use lib.ListN.{length-take}
+use Rattle.usage.proofs.Masks.{clock}
+use Rattle.usage.proofs.clock_fault.Statement.{statement}
+use Rattle.usage.proofs.clock_fault.Tie as tie
+
+shared-slice-read-digit : tie.Need-shared-slice-read-digit
+shared-slice-read-digit c = search needs
+
+digit-requires : tie.Need-digit-requires
+digit-requires c κs = search needs
+
+named-requires : tie.Need-named-requires
+named-requires c κs = search needs
+
+add-end : tie.Need-add-end
+add-end c = search needs
+
+array-share-prefix-first-fault : tie.Need-array-share-prefix-first-fault
+array-share-prefix-first-fault c = search needs
+
+slice-aggregate-first-fault : tie.Need-slice-aggregate-first-fault
+slice-aggregate-first-fault c = simp length-take (omega arith)
+
+first-fault-requires : tie.Need-first-fault-requires
+first-fault-requires c κs = search needs
+
+returns : tie.Need-returns
+returns c =
+    let f = c .before .before .before .before .before .before in
+    cc (clock (f .args .s .now) (f .pre) (λ p. omega (arith, c .before .before .before .before .before .shared-slice-known .given p)))
+
+pub clock-fault-spec : {M : Type 1} → statement M
+clock-fault-spec =
+    tie.close
+    (tie.spec
+    shared-slice-read-digit
+    digit-requires
+    named-requires
+    add-end
+    array-share-prefix-first-fault
+    slice-aggregate-first-fault
+    first-fault-requires
+    returns)

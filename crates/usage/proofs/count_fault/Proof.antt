@@ -1,0 +1,24 @@
+-- `usage::count_fault` meets its contract: one test, of what `digit` and `count` give.
+use borrow.Author.Needs.{needs}
+use Rattle.usage.proofs.count_fault.Statement.{statement}
+use Rattle.usage.proofs.count_fault.Tie as tie
+
+shared-slice-read-digit : tie.Need-shared-slice-read-digit
+shared-slice-read-digit c = search needs
+
+digit-requires : tie.Need-digit-requires
+digit-requires c κs = search needs
+
+count-requires : tie.Need-count-requires
+count-requires c κs = search needs
+
+test-requires : tie.Need-test-requires
+test-requires c κs = search needs
+
+returns : tie.Need-returns
+returns c = cc
+
+pub count-fault-spec : {M : Type 1} → statement M
+count-fault-spec =
+    tie.close
+    (tie.spec shared-slice-read-digit digit-requires count-requires test-requires returns)

@@ -1,0 +1,65 @@
+-- `usage::event_fault` meets its contract: the three faults, in order, by `Faults.event`.
+use native.Mathlib.Omega.{arith}
+use borrow.Author.Needs.{needs}
+use Rattle.usage.proofs.Faults.{event}
+use Rattle.usage.proofs.event_fault.Statement.{statement}
+use Rattle.usage.proofs.event_fault.Tie as tie
+
+shared-slice-read-among : tie.Need-shared-slice-read-among
+shared-slice-read-among c = search needs
+
+among-requires : tie.Need-among-requires
+among-requires c κs = search needs
+
+test-requires : tie.Need-test-requires
+test-requires c κs = search needs
+
+shared-slice-read-in-table : tie.Need-shared-slice-read-in-table
+shared-slice-read-in-table c = search needs
+
+shared-slice-read-in-table-2 : tie.Need-shared-slice-read-in-table-2
+shared-slice-read-in-table-2 c = search needs
+
+shared-slice-read-in-table-3 : tie.Need-shared-slice-read-in-table-3
+shared-slice-read-in-table-3 c = search needs
+
+in-table-requires : tie.Need-in-table-requires
+in-table-requires c κs = search needs
+
+test-requires-2 : tie.Need-test-requires-2
+test-requires-2 c κs = search needs
+
+slice-aggregate-first-fault : tie.Need-slice-aggregate-first-fault
+slice-aggregate-first-fault c = search needs
+
+first-fault-requires : tie.Need-first-fault-requires
+first-fault-requires c κs = search needs
+
+either-requires : tie.Need-either-requires
+either-requires c κs = search needs
+
+either-requires-2 : tie.Need-either-requires-2
+either-requires-2 c κs = search needs
+
+returns : tie.Need-returns
+returns c =
+    let f = c .before .before .before .before .before .before .before .before .before .before .before .before .before in
+    cc (event (f .args .s .now) (f .pre) (λ p. omega (arith, c .before .before .before .before .before .before .before .before .before .before .before .before .shared-slice-known .given p)))
+
+pub event-fault-spec : {M : Type 1} → statement M
+event-fault-spec =
+    tie.close
+    (tie.spec
+    shared-slice-read-among
+    among-requires
+    test-requires
+    shared-slice-read-in-table
+    shared-slice-read-in-table-2
+    shared-slice-read-in-table-3
+    in-table-requires
+    test-requires-2
+    slice-aggregate-first-fault
+    first-fault-requires
+    either-requires
+    either-requires-2
+    returns)

@@ -1,0 +1,2 @@
+pub mod Usage
+pub mod Code
