@@ -4,3 +4,5 @@ pub mod Alike
 pub mod Scan
 pub mod Back
 pub mod Bridge
+pub mod Same
+pub mod Writing

@@ -1,4 +1,5 @@
 pub mod Text
 pub mod Test
 pub mod Cells
+pub mod Writing
 pub mod Code

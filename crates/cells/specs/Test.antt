@@ -1,7 +1,7 @@
 -- "Codes are tested left to right": the first test that is not passed is the refusal.
 -- Assumes nothing.
 use Prim.Native.Nat.{ℕ}
-use mathlib.Core.Bool.{Bool, true, false, cond}
+use mathlib.Core.Bool.{Bool, cond}
 use mathlib.Core.List.{List, [], _∷_}
 use lib.Dec.{eqb}
 use Rattle.cells.specs.declared.Fault.{Fault}
@@ -12,6 +12,7 @@ pub record Test : Type 0 where
   pub place : ℕ
   pub passed : Bool
 
+-- A test by its parts.
 abbrev pub test : ℕ → ℕ → Bool → Test
 test n p b = record { number = n; place = p; passed = b }
 
@@ -29,5 +30,6 @@ pub data Answer (A : Type 0) : Type 0 where
   took : A → Answer A
   refused : ℕ → ℕ → Answer A
 
+-- The value where nothing is at fault, and else the fault.
 abbrev pub judge : {A : Type 0} → Fault → A → Answer A
 judge f a = cond (eqb (f .number) 0) (took a) (refused (f .number) (f .place))

@@ -32,5 +32,6 @@ bytes (cons x t) = code x ∷ bytes t
 abbrev pub digits : String
 digits = "0123456789ABCDEFGHIJKLMNOPQRSTUVWXYZ"
 
+-- The value of a character.
 unfoldable pub digit : ℕ → ℕ
 digit c = index digits c

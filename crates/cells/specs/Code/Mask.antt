@@ -1,7 +1,7 @@
 -- Sets of characters as masks, and the first fault of a row of them.
 -- Assumes nothing.
 use Prim.Native.Nat.{ℕ, zero, suc, _+_, _-_, _/_, _%_, _^_}
-use mathlib.Core.Bool.{Bool, true, false, cond}
+use mathlib.Core.Bool.{Bool, false, cond}
 use mathlib.Core.List.{List}
 use lib.Dec.{ltb, leb, eqb}
 use lib.ListN.{length, getD}
@@ -12,6 +12,7 @@ use Rattle.cells.specs.declared.Fault.{Fault}
 unfoldable pub value : ℕ → ℕ
 value c = cond (ltb c 48) 36 (cond (leb c 57) (c - 48) (cond (ltb c 65) 36 (cond (leb c 90) (c - 55) 36)))
 
+-- the character of a value; 0 where there is none
 unfoldable pub letter : ℕ → ℕ
 letter v = cond (ltb v 10) (48 + v) (cond (ltb v 36) (55 + v) 0)
 
@@ -24,6 +25,7 @@ unfoldable pub wrong : Bool → Bool → ℕ → ℕ → ℕ → ℕ
 wrong inside rises last b v =
     cond inside (cond (ltb last v) 8 (cond rises (cond (ltb b v) 0 9) 0)) 5
 
+-- 6 for an unused value that is not 0
 unfoldable pub unused : ℕ → ℕ
 unused v = cond (eqb v 0) 0 6
 

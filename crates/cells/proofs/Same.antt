@@ -1,0 +1,24 @@
+-- Two records whose numbers compare as equal are made of the same numbers.
+-- Assumes nothing.
+use Prim.Native.Nat.{ℕ}
+use mathlib.Core.Path.{_≡_, refl}
+use mathlib.Core.Bool.{true}
+use mathlib.Core.List.{List, [], _∷_}
+use native.Mathlib.Omega.{arith}
+use borrow.Author.Tests.{eq-eqb, eqb-true}
+use lib.Dec.{eqb}
+use Rattle.cells.specs.Code.Same.{eqs}
+use Rattle.cells.proofs.Alike.{and-left, and-right}
+
+pub eqs-eq : (xs ys : List ℕ) → eqs xs ys ≡ true → xs ≡ ys
+eqs-eq [] [] h = refl
+eqs-eq [] (y ∷ ys) h = absurd (let z : _≡_ {A = ℕ} 0 1 = cc in omega arith)
+eqs-eq (x ∷ xs) [] h = absurd (let z : _≡_ {A = ℕ} 0 1 = cc in omega arith)
+eqs-eq (x ∷ xs) (y ∷ ys) h =
+    let p = eqb-true x y (and-left _ _ h) in
+    let q = eqs-eq xs ys (and-right (eqb x y) _ h) in
+    λ j. p j ∷ q j
+
+pub eqs-self : (xs : List ℕ) → eqs xs xs ≡ true
+eqs-self [] = refl
+eqs-self (x ∷ xs) = simp (eq-eqb x x refl) (eqs-self xs)
