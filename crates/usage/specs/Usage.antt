@@ -2,7 +2,6 @@
 -- Assumes nothing.
 use Prim.Native.Nat.{ℕ, zero, suc, _+_, _-_}
 use Prim.Native.String.{String}
-use mathlib.Core.Path.{_≡_}
 use mathlib.Core.Bool.{Bool, true, false, cond, _&&_}
 use mathlib.Core.List.{List, [], _∷_, _++_}
 use lib.Dec.{eqb}
@@ -16,15 +15,16 @@ use Rattle.usage.specs.declared.Event.{Event}
 use Rattle.usage.specs.declared.Instruction.{Instruction}
 use Rattle.usage.specs.declared.Reading.{Reading}
 use Rattle.usage.specs.declared.Reading.the-variants.{Taken, Refused}
-use Rattle.usage.specs.declared.Written.{Written}
 
 -- "A start hour A to X (A is 0 h, X is 23 h)": what a character says as an hour, 24 where it is none.
 abbrev pub hours : String
 hours = "ABCDEFGHIJKLMNOPQRSTUVWX"
 
+-- The hour of a character.
 unfoldable pub hour : ℕ → ℕ
 hour c = index hours c
 
+-- 0, or an hour.
 abbrev pub hoursOr0 : String
 hoursOr0 = "0ABCDEFGHIJKLMNOPQRSTUVWX"
 
@@ -37,6 +37,7 @@ used c = cond (among "0" c) 0 1
 abbrev pub details : ℕ → String
 details class = cond (among "1" class) "0123" "ABCDEFGHJKLMNPQRSTU"
 
+-- The timing kinds of a class and a detail.
 abbrev pub kinds : ℕ → ℕ → String
 kinds class detail = cond (among "1" class) (cond (among "3" detail) "12357" "1235") "567"
 
@@ -53,6 +54,7 @@ mealCells = set "12345" ∷ set "01" ∷ set "0123456" ∷ set "0123456" ∷ set
 abbrev pub occasions : List ℕ → ℕ
 occasions s = used (char s 5) + used (char s 6) + used (char s 7) + used (char s 8) + used (char s 9) + used (char s 10)
 
+-- The test of the count.
 abbrev pub counted : List ℕ → Test
 counted s = test 7 4 (eqb (digit (char s 4)) (occasions s))
 
@@ -61,6 +63,7 @@ counted s = test 7 4 (eqb (digit (char s 4)) (occasions s))
 abbrev pub fullDay : List ℕ → Bool
 fullDay s = among "1" (char s 5) && (among "4" (char s 6) && (among "4" (char s 7) && (among "4" (char s 8) && among "0" (char s 9))))
 
+-- The test of P.
 abbrev pub atFifteen : List ℕ → Test
 atFifteen s = test 8 10 (cond (among "P" (char s 10)) (fullDay s) true)
 
@@ -73,6 +76,7 @@ abbrev pub risings : ℕ → List Cell
 risings zero = []
 risings (suc n) = rising hours ∷ risings n
 
+-- The 4th, the first hour, and n - 1 hours that rise.
 abbrev pub clockCells : ℕ → List Cell
 clockCells n = set "12345678" ∷ set hours ∷ risings (n - 1)
 
@@ -84,9 +88,11 @@ pub record Rows : Type 0 where
   pub sixth : String
   pub condition : String
 
+-- Rows by their three texts.
 abbrev pub rows : String → String → String → Rows
 rows a b c = record { fifth = a; sixth = b; condition = c }
 
+-- The lines of the table.
 abbrev pub table8 : List Rows
 table8 =
     rows "1" "1234567" "0" ∷
@@ -106,6 +112,7 @@ table8 =
     rows "A" "1" "24" ∷
     rows "A" "23456789" "2" ∷ []
 
+-- Three characters are one of the rows.
 unfoldable pub inTable : List Rows → ℕ → ℕ → ℕ → Bool
 inTable [] a b c = false
 inTable (r ∷ rs) a b c = cond (among (r .fifth) a && (among (r .sixth) b && among (r .condition) c)) true (inTable rs a b c)
@@ -114,6 +121,7 @@ inTable (r ∷ rs) a b c = cond (among (r .fifth) a && (among (r .sixth) b && am
 abbrev pub row : List ℕ → Test
 row s = test 8 5 (inTable table8 (char s 5) (char s 6) (char s 7))
 
+-- The interval and the limit.
 abbrev pub limitCells : List Cell
 limitCells = set "01234568C" ∷ set "0123456789AC" ∷ []
 
@@ -127,6 +135,7 @@ abbrev pub pairs : ℕ → String
 pairs c =
     cond (among "1" c) "02N" (cond (among "2" c) "03" (cond (among "3" c) "0A4" (cond (among "4" c) "0A5" (cond (among "6" c) "0A" ""))))
 
+-- The test of the pair.
 abbrev pub pair : List ℕ → Test
 pair s = test 8 4 (among (pairs (char s 4)) (char s 5))
 
@@ -144,9 +153,11 @@ timing s =
 abbrev pub noOccasions : Occasions
 noOccasions = record { bedtime = 0; supper = 0; lunch = 0; breakfast = 0; waking = 0; hour = 24 }
 
+-- No hours.
 abbrev pub noHours : Hours
 noHours = record { h1 = 24; h2 = 24; h3 = 24; h4 = 24; h5 = 24; h6 = 24; h7 = 24; h8 = 24 }
 
+-- No event.
 abbrev pub noEvent : Event
 noEvent = record { group = 0; event = 0; condition = 0; interval = 0; limit = 0 }
 
@@ -199,6 +210,7 @@ eventOf s =
       limit = digit (char s 9);
     }
 
+-- The whole instruction.
 unfoldable pub says : List ℕ → Instruction
 says s =
     record {
@@ -221,11 +233,3 @@ readUsage s = cond (eqb (length s) 16) (judge (first (frame s ++ timing s)) (say
 abbrev pub said : Reading → Answer Instruction
 said (Taken i) = took i
 said (Refused f) = refused (f .number) (f .place)
-
--- "35: code record that no code reads as" (ours: sixteen 0 bytes with it). Else the sixteen characters are a code that reads as the record.
-abbrev pub none : Written
-none = record { number = 35; code = 0 ∷ 0 ∷ 0 ∷ 0 ∷ 0 ∷ 0 ∷ 0 ∷ 0 ∷ 0 ∷ 0 ∷ 0 ∷ 0 ∷ 0 ∷ 0 ∷ 0 ∷ 0 ∷ [] }
-
-pub record Writes (i : Instruction) (w : Written) : Type 0 where
-  pub reads : w .number ≡ 0 → readUsage (w .code) ≡ took i
-  pub refuses : (w .number ≡ 0 → ⊥) → (w ≡ none) × ((s : List ℕ) → readUsage s ≡ took i → ⊥)

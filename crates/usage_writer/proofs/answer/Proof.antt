@@ -1,6 +1,6 @@
--- `usage::answer` meets its contract: the two values of the test.
-use Rattle.usage.proofs.answer.Statement.{statement}
-use Rattle.usage.proofs.answer.Tie as tie
+-- `usage_writer::answer` meets its contract: the two values of the test.
+use Rattle.usage_writer.proofs.answer.Statement.{statement}
+use Rattle.usage_writer.proofs.answer.Tie as tie
 
 returns : tie.Need-returns
 returns c = simp (c .if1 .taken)

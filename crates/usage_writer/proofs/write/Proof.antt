@@ -1,11 +1,13 @@
--- `usage::write` meets its contract: what is written is read back and compared, by `Writing.writes`.
-use mathlib.Core.Path.{_≡_}
+-- `usage_writer::write` meets its contract: what is written is read back and compared, by `Writing.written`.
+use mathlib.Core.Path.{_≡_, subst}
 use borrow.Author.Needs.{needs}
-use Rattle.usage.specs.Code.Write.{raw, agrees, answer}
+use Rattle.usage_writer.specs.Code.Write.{raw, agrees, answer}
 use Rattle.usage.specs.Usage.{said, readUsage}
-use Rattle.usage.proofs.Writing.{writes}
-use Rattle.usage.proofs.write.Statement.{statement}
-use Rattle.usage.proofs.write.Tie as tie
+use Rattle.usage_writer.specs.Writes.{WritesUsage}
+use Rattle.usage_writer.specs.declared.Written.{Written}
+use Rattle.usage_writer.proofs.Writing.{written}
+use Rattle.usage_writer.proofs.write.Statement.{statement}
+use Rattle.usage_writer.proofs.write.Tie as tie
 
 raw-requires : tie.Need-raw-requires
 raw-requires c κs = search needs
@@ -28,7 +30,7 @@ returns c =
     let u = c .before .before .read .result in
     let r : said u ≡ readUsage (raw i) = cc in
     let e : answer (agrees u i) (raw i) ≡ c .answer .result = cc in
-    rw e at (writes i u r)
+    subst (λ (w : Written). WritesUsage i w) e (written i u r)
 
 pub write-spec : {M : Type 1} → statement M
 write-spec =

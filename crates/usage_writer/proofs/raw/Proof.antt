@@ -1,12 +1,12 @@
--- `usage::raw` meets its contract: four characters, then the twelve of `tail` (`Writing.twelve`, `Printed.whole`).
+-- `usage_writer::raw` meets its contract: four characters, then the twelve of `tail` (`Writing.twelve`, `Printed.whole`).
 use mathlib.Core.List.{_∷_}
 use mathlib.Core.Path.{_≡_, _∙_, ap}
 use borrow.Author.Needs.{needs}
-use Rattle.usage.specs.Code.Write.{tail}
-use Rattle.usage.proofs.Printed.{part, whole}
-use Rattle.usage.proofs.Writing.{twelve}
-use Rattle.usage.proofs.raw.Statement.{statement}
-use Rattle.usage.proofs.raw.Tie as tie
+use Rattle.usage_writer.specs.Code.Write.{tail}
+use Rattle.usage_writer.proofs.Printed.{part, whole}
+use Rattle.usage_writer.proofs.Writing.{twelve}
+use Rattle.usage_writer.proofs.raw.Statement.{statement}
+use Rattle.usage_writer.proofs.raw.Tie as tie
 
 tail-requires : tie.Need-tail-requires
 tail-requires c κs = search needs

@@ -1,8 +1,8 @@
--- `usage::mark` meets its contract: the number is 0 or not.
+-- `usage_writer::mark` meets its contract: the number is 0 or not.
 use Rattle.cells.proofs.Tests.{tests}
-use Rattle.usage.specs.Code.Write.{mark}
-use Rattle.usage.proofs.mark.Statement.{statement}
-use Rattle.usage.proofs.mark.Tie as tie
+use Rattle.usage_writer.specs.Code.Write.{mark}
+use Rattle.usage_writer.proofs.mark.Statement.{statement}
+use Rattle.usage_writer.proofs.mark.Tie as tie
 
 returns : tie.Need-returns
 unfolding mark

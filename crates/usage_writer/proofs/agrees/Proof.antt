@@ -1,7 +1,7 @@
--- `usage::agrees` meets its contract: a reading is taken apart by its two variants; what is taken is compared by `same`.
+-- `usage_writer::agrees` meets its contract: a reading is taken apart by its two variants; what is taken is compared by `same`.
 use borrow.Author.Needs.{needs}
-use Rattle.usage.proofs.agrees.Statement.{statement}
-use Rattle.usage.proofs.agrees.Tie as tie
+use Rattle.usage_writer.proofs.agrees.Statement.{statement}
+use Rattle.usage_writer.proofs.agrees.Tie as tie
 
 enum-known-u : tie.Need-enum-known-u
 enum-known-u c = search needs

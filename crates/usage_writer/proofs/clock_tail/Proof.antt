@@ -1,7 +1,7 @@
--- `usage::clock_tail` meets its contract: each character is what `hour_letter` gives.
+-- `usage_writer::clock_tail` meets its contract: each character is what `hour_letter` gives.
 use borrow.Author.Needs.{needs}
-use Rattle.usage.proofs.clock_tail.Statement.{statement}
-use Rattle.usage.proofs.clock_tail.Tie as tie
+use Rattle.usage_writer.proofs.clock_tail.Statement.{statement}
+use Rattle.usage_writer.proofs.clock_tail.Tie as tie
 
 hour-letter-requires : tie.Need-hour-letter-requires
 hour-letter-requires c κs = search needs

@@ -1,7 +1,7 @@
--- `usage::same` meets its contract: the four comparisons.
+-- `usage_writer::same` meets its contract: the four comparisons.
 use borrow.Author.Needs.{needs}
-use Rattle.usage.proofs.same.Statement.{statement}
-use Rattle.usage.proofs.same.Tie as tie
+use Rattle.usage_writer.proofs.same.Statement.{statement}
+use Rattle.usage_writer.proofs.same.Tie as tie
 
 same-head-requires : tie.Need-same-head-requires
 same-head-requires c κs = search needs

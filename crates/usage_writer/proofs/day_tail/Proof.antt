@@ -1,7 +1,7 @@
--- `usage::day_tail` meets its contract: each character is what its number is written as.
+-- `usage_writer::day_tail` meets its contract: each character is what its number is written as.
 use borrow.Author.Needs.{needs}
-use Rattle.usage.proofs.day_tail.Statement.{statement}
-use Rattle.usage.proofs.day_tail.Tie as tie
+use Rattle.usage_writer.proofs.day_tail.Statement.{statement}
+use Rattle.usage_writer.proofs.day_tail.Tie as tie
 
 letter-requires : tie.Need-letter-requires
 letter-requires c κs = search needs

@@ -1,11 +1,11 @@
--- `usage::tail` meets its contract: the tests of the kind, in their order.
+-- `usage_writer::tail` meets its contract: the tests of the kind, in their order.
 use mathlib.Core.Path.{_≡_}
 use borrow.Author.Needs.{needs}
 use Rattle.cells.specs.Code.Mask.{letter}
 use Rattle.cells.proofs.Tests.{tests}
-use Rattle.usage.specs.Code.Write.{hourLetter, mark, dayTail, loneTail, tail}
-use Rattle.usage.proofs.tail.Statement.{statement}
-use Rattle.usage.proofs.tail.Tie as tie
+use Rattle.usage_writer.specs.Code.Write.{hourLetter, mark, dayTail, loneTail, tail}
+use Rattle.usage_writer.proofs.tail.Statement.{statement}
+use Rattle.usage_writer.proofs.tail.Tie as tie
 
 letter-requires : tie.Need-letter-requires
 letter-requires c κs = search needs

@@ -5,14 +5,14 @@ use mathlib.Core.Bool.{Bool, true, false, cond, _&&_}
 use mathlib.Core.List.{List, [], _∷_}
 use lib.Dec.{ltb, eqb}
 use Rattle.cells.specs.Code.Mask.{letter}
-use Rattle.usage.specs.Usage.{none}
+use Rattle.cells.specs.Code.Same.{eqs}
 use Rattle.usage.specs.declared.Occasions.{Occasions}
 use Rattle.usage.specs.declared.Hours.{Hours}
 use Rattle.usage.specs.declared.Event.{Event}
 use Rattle.usage.specs.declared.Instruction.{Instruction}
 use Rattle.usage.specs.declared.Reading.{Reading}
 use Rattle.usage.specs.declared.Reading.the-variants.{Taken, Refused}
-use Rattle.usage.specs.declared.Written.{Written}
+use Rattle.usage_writer.specs.declared.Written.{Written}
 
 -- an hour's character, 0 for none
 unfoldable pub hourLetter : ℕ → ℕ
@@ -73,13 +73,6 @@ ofHours h = h .h1 ∷ h .h2 ∷ h .h3 ∷ h .h4 ∷ h .h5 ∷ h .h6 ∷ h .h7 �
 abbrev pub ofEvent : Event → List ℕ
 ofEvent e = e .group ∷ e .event ∷ e .condition ∷ e .interval ∷ e .limit ∷ []
 
--- two lists of numbers are equal
-abbrev pub eqs : List ℕ → List ℕ → Bool
-eqs [] [] = true
-eqs [] (y ∷ ys) = false
-eqs (x ∷ xs) [] = false
-eqs (x ∷ xs) (y ∷ ys) = eqb x y && eqs xs ys
-
 -- two instructions are equal
 abbrev pub same : Instruction → Instruction → Bool
 same a b =
@@ -92,6 +85,6 @@ abbrev pub agrees : Reading → Instruction → Bool
 agrees (Taken j) i = same i j
 agrees (Refused f) i = false
 
--- the code, or none
+-- the code, or sixteen 0 bytes
 abbrev pub answer : Bool → List ℕ → Written
-answer ok s = cond ok (record { number = 0; code = s }) none
+answer ok s = record { number = cond ok 0 35; code = cond ok s (0 ∷ 0 ∷ 0 ∷ 0 ∷ 0 ∷ 0 ∷ 0 ∷ 0 ∷ 0 ∷ 0 ∷ 0 ∷ 0 ∷ 0 ∷ 0 ∷ 0 ∷ 0 ∷ []) }

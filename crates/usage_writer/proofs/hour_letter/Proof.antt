@@ -1,9 +1,9 @@
--- `usage::hour_letter` meets its contract: the hour is below 24 or not.
+-- `usage_writer::hour_letter` meets its contract: the hour is below 24 or not.
 use borrow.Author.Needs.{needs}
 use Rattle.cells.proofs.Tests.{tests}
-use Rattle.usage.specs.Code.Write.{hourLetter}
-use Rattle.usage.proofs.hour_letter.Statement.{statement}
-use Rattle.usage.proofs.hour_letter.Tie as tie
+use Rattle.usage_writer.specs.Code.Write.{hourLetter}
+use Rattle.usage_writer.proofs.hour_letter.Statement.{statement}
+use Rattle.usage_writer.proofs.hour_letter.Tie as tie
 
 add-result : tie.Need-add-result
 add-result c = search needs

@@ -16,10 +16,10 @@ use Rattle.cells.specs.Code.Mask.{letter}
 use Rattle.cells.proofs.Split.{split}
 use Rattle.cells.proofs.Alike.{and-left, and-right, alike, each}
 use Rattle.cells.proofs.Back.{passed, in-sets}
 use Rattle.usage.specs.Usage.{hour, used, details, kinds, frame, mealCells, counted, atFifteen, everyCells, clockCells, Rows, table8, inTable, row, limitCells, outsideCells, pairs, timing, says}
-use Rattle.usage.specs.Code.Write.{hourLetter, mark, tail, raw}
+use Rattle.usage_writer.specs.Code.Write.{hourLetter, mark, tail, raw}
 use Rattle.usage.proofs.Masks.{bit}
-use Rattle.usage.proofs.Printed.{part, whole, kept, printed}
+use Rattle.usage_writer.proofs.Printed.{part, whole, kept, printed}
 
 -- how a character is read and printed: as a value, as an hour, as a mark, or not at all
 abbrev asValue : ℕ → ℕ

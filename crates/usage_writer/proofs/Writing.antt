@@ -5,17 +5,21 @@ use mathlib.Core.Path.{_≡_, refl, _∙_, sym, ap}
 use mathlib.Core.Bool.{true}
 use mathlib.Core.List.{List, [], _∷_}
 use native.Mathlib.Omega.{arith}
-use borrow.Author.Tests.{eq-eqb, eqb-true}
 use lib.Dec.{eqb}
 use lib.ListN.{length, getD}
 use Rattle.cells.proofs.Split.{split}
+use Rattle.cells.specs.Code.Same.{eqs}
 use Rattle.cells.proofs.Alike.{and-left, and-right}
-use Rattle.usage.specs.Usage.{readUsage, said, Writes}
-use Rattle.usage.specs.Code.Write.{tail, raw, ofHead, ofOccasions, ofHours, ofEvent, eqs, same, agrees, answer}
+use Rattle.cells.proofs.Same.{eqs-eq, eqs-self}
+use Rattle.cells.proofs.Writing.{writes}
+use Rattle.usage.specs.Usage.{readUsage, said}
+use Rattle.usage.proofs.Laws.{one-reading}
+use Rattle.usage_writer.specs.Writes.{WritesUsage}
+use Rattle.usage_writer.specs.Code.Write.{tail, raw, ofHead, ofOccasions, ofHours, ofEvent, same, agrees, answer}
 use Rattle.usage.specs.declared.Instruction.{Instruction}
 use Rattle.usage.specs.declared.Reading.{Reading}
 use Rattle.usage.specs.declared.Reading.the-variants.{Taken, Refused}
-use Rattle.usage.proofs.Laws.{back, one-reading}
+use Rattle.usage_writer.proofs.Laws.{back}
 
 -- the characters after the 4th are twelve
 pub twelve : (i : Instruction) → length (tail i) ≡ 12
@@ -26,20 +30,7 @@ twelve i =
     (λ b. split (eqb (i .kind) 3) (λ d. simp (a, b, d))
     (λ d. split (eqb (i .kind) 5) (λ e. simp (a, b, d, e)) (λ e. split (eqb (i .kind) 6) (λ f. simp (a, b, d, e, f)) (λ f. simp (a, b, d, e, f))))))
 
--- the comparison of two instructions
-eqs-eq : (xs ys : List ℕ) → eqs xs ys ≡ true → xs ≡ ys
-eqs-eq [] [] h = refl
-eqs-eq [] (y ∷ ys) h = absurd (let z : _≡_ {A = ℕ} 0 1 = cc in omega arith)
-eqs-eq (x ∷ xs) [] h = absurd (let z : _≡_ {A = ℕ} 0 1 = cc in omega arith)
-eqs-eq (x ∷ xs) (y ∷ ys) h =
-    let p = eqb-true x y (and-left _ _ h) in
-    let q = eqs-eq xs ys (and-right (eqb x y) _ h) in
-    λ j. p j ∷ q j
-
-eqs-self : (xs : List ℕ) → eqs xs xs ≡ true
-eqs-self [] = refl
-eqs-self (x ∷ xs) = simp (eq-eqb x x refl) (eqs-self xs)
-
+-- two instructions that compare as equal are equal
 rebuild : List ℕ → List ℕ → List ℕ → List ℕ → Instruction
 rebuild i o h e =
     record {
@@ -94,18 +85,9 @@ agrees-taken : (u : Reading) (i : Instruction) → agrees u i ≡ true → u ≡
 agrees-taken (Taken j) i h = ap Taken (sym (same-eq i j h))
 agrees-taken (Refused f) i h = absurd (let z : _≡_ {A = ℕ} 0 1 = cc in omega arith)
 
-pub writes : (i : Instruction) (u : Reading) → said u ≡ readUsage (raw i) → Writes i (answer (agrees u i) (raw i))
-writes i u r =
-    split (agrees u i)
-    (λ a. simp a (record { reads = λ z. sym r ∙ ap said (agrees-taken u i a); refuses = λ z. absurd (z refl) }))
-    (λ a. simp a
-    (record {
-      reads = λ z. absurd (omega arith);
-      refuses = λ z. (
-        refl,
-        λ s h.
-            let t = one-reading u (Taken i) (r ∙ ap readUsage (back s i h) ∙ h) in
-            let k = sym a ∙ ap (λ v. agrees v i) t ∙ same-self i in
-            let y : _≡_ {A = ℕ} 0 1 = cc in omega arith,
-      );
-    }))
+pub written : (i : Instruction) (u : Reading) → said u ≡ readUsage (raw i) → WritesUsage i (answer (agrees u i) (raw i))
+written i u r =
+    writes Instruction readUsage _ raw back i (agrees u i) (λ a. sym r ∙ ap said (agrees-taken u i a))
+    (λ a h. let t = one-reading u (Taken i) (r ∙ h) in
+    let k = sym a ∙ ap (λ v. agrees v i) t ∙ same-self i in
+    let y : _≡_ {A = ℕ} 0 1 = cc in omega arith)

@@ -1,0 +1,4 @@
+pub mod Printed
+pub mod Back
+pub mod Laws
+pub mod Writing
