@@ -1,4 +1,4 @@
--- What holds of reading and writing supplementary codes, over the rules alone.
+-- What holds of reading supplementary codes. (`Rattle.supplement_writer.proofs.Laws` has what holds of reading and writing together.)
 -- Assumes nothing.
 use Prim.Native.Nat.{ℕ, suc, _+_, _-_, _≤_}
 use mathlib.Core.Path.{_≡_, refl, _∙_, sym, ap}
@@ -6,7 +6,7 @@ use mathlib.Core.Bool.{true, cond}
 use mathlib.Core.Logic.{_↔_}
 use mathlib.Core.List.{List}
 use native.Mathlib.Omega.{arith}
-use borrow.Author.Tests.{eqb-true, eqb-false}
+use borrow.Author.Tests.{eqb-true}
 use lib.Dec.{eqb}
 use lib.ListN.{length, getD, drop, length-drop}
 use Rattle.cells.specs.Test.{first, fault, Answer, took, refused, judge}
@@ -14,32 +14,13 @@ use Rattle.cells.specs.Text.{among}
 use Rattle.cells.specs.Cells.{char, cells}
 use Rattle.cells.specs.declared.Fault.{Fault}
 use Rattle.cells.proofs.Split.{split}
-use Rattle.cells.proofs.Back.{taken}
 use Rattle.cells.proofs.Alike.{each}
-use Rattle.supplement.specs.Supplement.{tests, says, readSupplement, said, Writes, none}
+use Rattle.supplement.specs.Supplement.{tests, says, readSupplement, said}
 use Rattle.supplement.specs.Amount.{Allowed, Agrees, nothing, columns}
-use Rattle.supplement.specs.Code.Write.{raw}
 use Rattle.supplement.specs.declared.Supplement.{Supplement}
 use Rattle.supplement.specs.declared.Reading.{Reading}
 use Rattle.supplement.specs.declared.Reading.the-variants.{Taken, Refused}
-use Rattle.supplement.specs.declared.Written.{Written}
-use Rattle.supplement.proofs.Back.{eight}
 use Rattle.supplement.proofs.Shape.{stop, over, allowed, fine, stopped}
-
--- A code that reads as a record is what the record is written as.
-pub back : (s : List ℕ) (x : Supplement) → readSupplement s ≡ took x → raw x ≡ s
-unfolding readSupplement
-back s x h =
-    split (eqb (length s) 8) (λ e. let k = taken (tests s) (says s) x (simp e at h) in ap raw (sym (k .1)) ∙ eight s (eqb-true _ _ e) (k .0))
-    (λ e. absurd (let k = simp e at h in let z : _≡_ {A = ℕ} 0 1 = cc in omega arith))
-
--- So what a record that some code reads as is written as reads as the record,
-pub again : (x : Supplement) (s : List ℕ) → readSupplement s ≡ took x → readSupplement (raw x) ≡ took x
-again x s h = ap readSupplement (back s x h) ∙ h
-
--- and two codes that read as one record are one code.
-pub one-code : (s t : List ℕ) (x : Supplement) → readSupplement s ≡ took x → readSupplement t ≡ took x → s ≡ t
-one-code s t x h k = sym (back s x h) ∙ back t x k
 
 -- Two answers of the reader that say the same are equal.
 pub one-reading : (a b : Reading) → said a ≡ said b → a ≡ b
@@ -50,19 +31,6 @@ one-reading (Refused f) (Refused g) h =
     let n : f .number ≡ g .number = cc in
     let p : f .place ≡ g .place = cc in
     ap Refused (λ i. record { number = n i; place = p i })
-
--- Two answers of the writer that meet its statement are equal.
-pub one-written : (x : Supplement) (v w : Written) → Writes x v → Writes x w → v ≡ w
-one-written x v w hv hw =
-    split (eqb (v .number) 0)
-    (λ a. let r = hv .reads (eqb-true _ _ a) in
-    split (eqb (w .number) 0)
-    (λ b. let n : v .number ≡ w .number = eqb-true _ _ a ∙ sym (eqb-true _ _ b) in
-    let c = one-code (v .code) (w .code) x r (hw .reads (eqb-true _ _ b)) in
-    λ j. record { number = n j; code = c j })
-    (λ b. absurd (hw .refuses (eqb-false _ _ b) .1 (v .code) r)))
-    (λ a. split (eqb (w .number) 0) (λ b. absurd (hv .refuses (eqb-false _ _ a) .1 (w .code) (hw .reads (eqb-true _ _ b))))
-    (λ b. hv .refuses (eqb-false _ _ a) .0 ∙ sym (hw .refuses (eqb-false _ _ b) .0)))
 
 -- The six columns of a V code have no fault exactly where they are an allowed amount.
 pub amount-taken : (s : List ℕ) → length s ≡ 8 → (first (cells 6 2 (columns nothing 6 2 s) s) .number ≡ 0) ↔ Allowed (drop 2 s)

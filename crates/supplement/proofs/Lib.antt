@@ -1,10 +1,7 @@
 pub mod Eight
 pub mod Sets
 pub mod Rows
+pub mod Clean
 pub mod Columns
-pub mod Numbers
 pub mod Shape
-pub mod Print
-pub mod Back
 pub mod Laws
-pub mod Writing

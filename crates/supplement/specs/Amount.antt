@@ -4,13 +4,14 @@
 use Prim.Native.Nat.{ℕ, zero, suc, _+_, _*_, _≤_}
 use Prim.Native.String.{String}
 use mathlib.Core.Path.{_≡_}
-use mathlib.Core.Bool.{Bool, true, false, cond}
+use mathlib.Core.Bool.{true, false, cond}
 use mathlib.Core.Logic.{_⊎_}
 use mathlib.Core.List.{List, [], _∷_, _++_}
 use lib.ListN.{length, getD, take, drop, replicate}
-use Rattle.cells.specs.Text.{among, digit, bytes}
+use Rattle.cells.specs.Text.{among, digit}
 use Rattle.cells.specs.Cells.{Cell, set}
 
+-- The digits.
 abbrev pub figures : String
 figures = "0123456789"
 
@@ -39,6 +40,7 @@ pub record Agrees (k : ℕ) (s : List ℕ) : Type 0 where
 pub data Seen : Type 0 where
   nothing lone whole point decimals end : Seen
 
+-- By what has been seen and the columns left.
 unfoldable pub may : Seen → ℕ → String
 may nothing left = "0123456789"
 may lone zero = "N"
@@ -68,10 +70,12 @@ unfoldable pub figuresOf : ℕ → ℕ → ℕ → List ℕ → ℕ
 figuresOf n zero i s = n
 figuresOf n (suc k) i s = figuresOf (cond (among figures (getD s i 0)) (n * 10 + digit (getD s i 0)) n) k (i + 1) s
 
+-- How many of k columns from offset i on are digits.
 unfoldable pub decimalsOf : ℕ → ℕ → List ℕ → ℕ
 decimalsOf zero i s = 0
 decimalsOf (suc k) i s = cond (among figures (getD s i 0)) 1 0 + decimalsOf k (i + 1) s
 
+-- The digits after the point, 0 where there is none.
 unfoldable pub placesOf : ℕ → ℕ → List ℕ → ℕ
 placesOf zero i s = 0
 placesOf (suc k) i s = cond (among "." (getD s i 0)) (decimalsOf k (i + 1) s) (placesOf k (i + 1) s)

@@ -2,8 +2,7 @@
 -- Assumes nothing.
 use Prim.Native.Nat.{ℕ, zero, suc, _+_, _-_}
 use Prim.Native.String.{String}
-use mathlib.Core.Path.{_≡_}
-use mathlib.Core.Bool.{Bool, true, false, cond, not}
+use mathlib.Core.Bool.{Bool, false, cond, not}
 use mathlib.Core.List.{List, [], _∷_, _++_}
 use lib.Dec.{eqb}
 use lib.ListN.{length, getD}
@@ -16,12 +15,12 @@ use Rattle.supplement.specs.declared.Days.{Days}
 use Rattle.supplement.specs.declared.Supplement.{Supplement}
 use Rattle.supplement.specs.declared.Reading.{Reading}
 use Rattle.supplement.specs.declared.Reading.the-variants.{Taken, Refused}
-use Rattle.supplement.specs.declared.Written.{Written}
 
 -- "A value 1 to 31 is written 1 to 9, A to V; up to 35, on to Z."
 abbrev pub to31 : String
 to31 = "123456789ABCDEFGHIJKLMNOPQRSTUV"
 
+-- 1 to 35.
 abbrev pub to35 : String
 to35 = "123456789ABCDEFGHIJKLMNOPQRSTUVWXYZ"
 
@@ -37,9 +36,11 @@ intervalCells = set to31 ∷ set to31 ∷ []
 abbrev pub weekCells : List Cell
 weekCells = set "01" ∷ set "01" ∷ set "01" ∷ set "01" ∷ set "01" ∷ set "01" ∷ set "01" ∷ []
 
+-- The place of a day that is not meant.
 abbrev pub noDay : ℕ → List ℕ → Bool
 noDay p s = among "0" (char s p)
 
+-- No day of the week is meant.
 unfoldable pub emptyWeek : List ℕ → Bool
 emptyWeek s =
     cond (noDay 2 s) (cond (noDay 3 s) (cond (noDay 4 s) (cond (noDay 5 s) (cond (noDay 6 s) (cond (noDay 7 s) (noDay 8 s) false) false) false) false) false) false
@@ -50,6 +51,7 @@ unfoldable pub moreDays : ℕ → ℕ → ℕ → List ℕ → List Cell
 moreDays last zero i s = []
 moreDays last (suc k) i s = cond (among "0" (getD s i 0)) [] (risingUpto last to31 ∷ moreDays last k (i + 1) s)
 
+-- The month, the first day, and the days after it.
 abbrev pub dateCells : List ℕ → List Cell
 dateCells s = set "0123456789ABC" ∷ upto (lastDay (digit (char s 2))) to31 ∷ moreDays (lastDay (digit (char s 2))) 5 3 s
 
@@ -70,6 +72,7 @@ rest s =
     (cond (among "C" (char s 1)) (cells 7 1 countCells s)
     (cells 7 1 (amountCells s) s))))
 
+-- The letter, then the rest.
 abbrev pub tests : List ℕ → List Test
 tests s = test 2 1 (among "IWDCV" (char s 1)) ∷ rest s
 
@@ -90,12 +93,15 @@ saying letter on off week month days period count order figures places =
       places = places;
     }
 
+-- No week.
 abbrev pub noWeek : Week
 noWeek = record { sunday = 0; monday = 0; tuesday = 0; wednesday = 0; thursday = 0; friday = 0; saturday = 0 }
 
+-- No days.
 abbrev pub noDays : Days
 noDays = record { d1 = 0; d2 = 0; d3 = 0; d4 = 0; d5 = 0; d6 = 0 }
 
+-- The week of a W code.
 abbrev pub weekOf : List ℕ → Week
 weekOf s =
     record {
@@ -108,6 +114,7 @@ weekOf s =
       saturday = digit (char s 8);
     }
 
+-- The days of a D code.
 abbrev pub daysOf : List ℕ → Days
 daysOf s =
     record {
@@ -119,6 +126,7 @@ daysOf s =
       d6 = digit (char s 8);
     }
 
+-- By the letter.
 unfoldable pub says : List ℕ → Supplement
 says s =
     cond (among "I" (char s 1)) (saying (char s 1) (digit (char s 2)) (digit (char s 3)) noWeek 0 noDays 0 0 0 0 0)
@@ -135,11 +143,3 @@ readSupplement s = cond (eqb (length s) 8) (judge (first (tests s)) (says s)) (r
 abbrev pub said : Reading → Answer Supplement
 said (Taken x) = took x
 said (Refused f) = refused (f .number) (f .place)
-
--- "35: code record that no code reads as" (ours: eight 0 bytes with it). Else the eight characters are a code that reads as the record.
-abbrev pub none : Written
-none = record { number = 35; code = 0 ∷ 0 ∷ 0 ∷ 0 ∷ 0 ∷ 0 ∷ 0 ∷ 0 ∷ [] }
-
-pub record Writes (x : Supplement) (w : Written) : Type 0 where
-  pub reads : w .number ≡ 0 → readSupplement (w .code) ≡ took x
-  pub refuses : (w .number ≡ 0 → ⊥) → (w ≡ none) × ((s : List ℕ) → readSupplement s ≡ took x → ⊥)

@@ -4,7 +4,7 @@ use borrow.Author.Tests.{eq-eqb, ne-eqb}
 use borrow.Author.Needs.{needs}
 use Rattle.cells.specs.Text.{among}
 use Rattle.supplement.specs.Supplement.{says}
-use Rattle.supplement.proofs.Back.{an-amount}
+use Rattle.supplement.proofs.Clean.{an-amount}
 use Rattle.supplement.proofs.says.Statement.{statement}
 use Rattle.supplement.proofs.says.Tie as tie
 

@@ -1,0 +1,5 @@
+pub mod Numbers
+pub mod Print
+pub mod Back
+pub mod Laws
+pub mod Writing

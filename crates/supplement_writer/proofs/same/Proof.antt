@@ -1,0 +1,29 @@
+-- The three comparisons joined.
+-- Assumes nothing.
+use borrow.Author.Needs.{needs}
+use Rattle.supplement_writer.proofs.same.Statement.{statement}
+use Rattle.supplement_writer.proofs.same.Tie as tie
+use Rattle.supplement_writer.proofs.same.Reads as reads
+use Rattle.supplement_writer.proofs.same.Lts as lts
+use Rattle.supplement_writer.proofs.same_days.Reads as same-days-reads
+use Rattle.supplement_writer.proofs.same_head.Reads as same-head-reads
+use Rattle.supplement_writer.proofs.same_week.Reads as same-week-reads
+
+-- src/lib.rt:198:9
+same-head-requires : tie.Need-same-head-requires
+same-head-requires c κs = search needs
+
+-- src/lib.rt:199:9
+same-week-requires : tie.Need-same-week-requires
+same-week-requires c κs = search needs
+
+-- src/lib.rt:200:9
+same-days-requires : tie.Need-same-days-requires
+same-days-requires c κs = search needs
+
+-- src/lib.rt:195:1
+returns : tie.Need-returns
+returns c = cc
+
+pub same-spec : {M : Type 1} → statement M
+same-spec = tie.close (tie.spec same-head-requires same-week-requires same-days-requires returns)
