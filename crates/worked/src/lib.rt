@@ -1,0 +1,1 @@
+// No code: document 01's worked rows, proved of the definitions (proofs/Worked.antt).
