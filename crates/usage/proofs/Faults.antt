@@ -9,9 +9,8 @@ use Rattle.cells.specs.Test.{test, first}
 use Rattle.cells.specs.Cells.{char, cells}
 use Rattle.cells.specs.Code.Mask.{value, has, scan, either}
 use Rattle.cells.proofs.Bridge.{then, numbered}
-use Rattle.usage.specs.Usage.{details, kinds, frame, counted, atFifteen, mealCells, row, limitCells, outsideCells, pairs}
+use Rattle.usage.specs.Usage.{details, kinds, frame, counted, atFifteen, mealCells, row, limitCells, outsideCells, pair as pairOf, mealTests, eventTests, outsideTests, pairTests}
 use Rattle.usage.specs.Code.Sets as masks
-use Rattle.usage.specs.Code.Tests.{mealTests, eventTests, outsideTests, pairTests}
 use Rattle.usage.proofs.Masks as laws
 
 module _ (s : List ℕ) (long : length s ≡ 16) (small : (p : ℕ) → getD s p 0 < 256) where
@@ -58,6 +57,7 @@ module _ (s : List ℕ) (long : length s ≡ 16) (small : (p : ℕ) → getD s p
   pair =
       cc (
         laws.pair-set (char s 4) .agrees (char s 5) (small 4),
+        laws.paired (char s 4) (char s 5),
         laws.nothing s long small,
-        then (test 8 4 (among (pairs (char s 4)) (char s 5)) ∷ []) (cells 11 5 [] s) (refl, tt),
+        then (pairOf s ∷ []) (cells 11 5 [] s) (refl, tt),
       )

@@ -10,14 +10,14 @@ use native.Mathlib.Numerals.{add-one}
 use borrow.Author.Tests.{eqb-true, eq-eqb, lt-ltb}
 use lib.Dec.{ltb, leb, eqb}
 use lib.ListN.{length, getD, take}
-use Rattle.cells.specs.Text.{among, index, digit}
+use Rattle.cells.specs.Text.{among, index, at, digit}
 use Rattle.cells.specs.Test.{fault, first}
 use Rattle.cells.specs.Cells.{char, Cell, set, rising, upto, risingUpto, cells}
 use Rattle.cells.specs.Code.Mask.{value, has, wrong, wrongAt, scan}
 use Rattle.cells.proofs.Split.{split}
 use Rattle.cells.proofs.Alike.{and-left, and-right, same-bool, each, below, byte}
 use Rattle.cells.proofs.Bridge.{Agrees, agrees, Holds, Rows, row}
-use Rattle.usage.specs.Usage.{hour, details, kinds, mealCells, everyCells, clockCells, limitCells, outsideCells, pairs}
+use Rattle.usage.specs.Usage.{hour, details, kinds, mealCells, everyCells, clockCells, limitCells, outsideCells, pairs, inPairs}
 use Rattle.usage.specs.Code.Sets as masks
 
 -- the hour of a byte, by its distance from A
@@ -88,12 +88,22 @@ pub kind-set : (class detail : ℕ) → Mask (masks.kinds class detail) (kinds c
 unfolding masks.kinds has value among
 kind-set class detail = pick (among "1" class) (pick (among "3" detail) (mask refl) (mask refl)) (mask refl)
 
-pub pair-set : (c : ℕ) → Mask (masks.pairs c) (pairs c)
+pub pair-set : (c : ℕ) → Mask (masks.pairs c) (masks.seconds c)
 unfolding masks.pairs has value among
 pair-set c =
     pick (among "1" c) (mask refl)
     (pick (among "2" c) (mask refl)
     (pick (among "3" c) (mask refl) (pick (among "4" c) (mask refl) (pick (among "6" c) (mask refl) (mask refl)))))
+
+-- a pair of the list is one of the second characters after its first
+pub paired : (a b : ℕ) → inPairs pairs a b ≡ among (masks.seconds a) b
+unfolding inPairs at among
+paired a b =
+    split (eqb a 49) (λ e. let q : a ≡ 49 = eqb-true _ _ e in rw q)
+    (λ e. split (eqb a 50) (λ f. let q : a ≡ 50 = eqb-true _ _ f in rw q)
+    (λ f. split (eqb a 51) (λ g. let q : a ≡ 51 = eqb-true _ _ g in rw q)
+    (λ g. split (eqb a 52) (λ h. let q : a ≡ 52 = eqb-true _ _ h in rw q)
+    (λ h. split (eqb a 54) (λ k. let q : a ≡ 54 = eqb-true _ _ k in rw q) (λ k. simp (e, f, g, h, k))))))
 
 pub zero-set : Mask 1 "0"
 unfolding has value among

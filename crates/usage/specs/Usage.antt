@@ -6,7 +6,7 @@ use mathlib.Core.Bool.{Bool, true, false, cond, _&&_}
 use mathlib.Core.List.{List, [], _∷_, _++_}
 use lib.Dec.{eqb}
 use lib.ListN.{length}
-use Rattle.cells.specs.Text.{among, index, digit}
+use Rattle.cells.specs.Text.{among, index, at, digit}
 use Rattle.cells.specs.Test.{Test, test, first, Answer, took, refused, judge}
 use Rattle.cells.specs.Cells.{char, Cell, set, rising, cells}
 use Rattle.usage.specs.declared.Occasions.{Occasions}
@@ -67,9 +67,17 @@ fullDay s = among "1" (char s 5) && (among "4" (char s 6) && (among "4" (char s 
 abbrev pub atFifteen : List ℕ → Test
 atFifteen s = test 8 10 (cond (among "P" (char s 10)) (fullDay s) true)
 
+-- The tests of kind 1.
+abbrev pub mealTests : List ℕ → List Test
+mealTests s = cells 13 3 mealCells s ++ (counted s ∷ atFifteen s ∷ [])
+
 -- "Kind 2: 4th is 2, 3, 4, 6 or 8; 5th is 0 or a start hour A to X."
 abbrev pub everyCells : List Cell
 everyCells = set "23468" ∷ set hoursOr0 ∷ []
+
+-- The tests of kind 2.
+abbrev pub everyTests : List ℕ → List Test
+everyTests s = cells 13 3 everyCells s
 
 -- "Kind 3: 4th is n, 1 to 8; the next n are hours A to X, strictly rising."
 abbrev pub risings : ℕ → List Cell
@@ -79,6 +87,10 @@ risings (suc n) = rising hours ∷ risings n
 -- The 4th, the first hour, and n - 1 hours that rise.
 abbrev pub clockCells : ℕ → List Cell
 clockCells n = set "12345678" ∷ set hours ∷ risings (n - 1)
+
+-- The tests of kind 3.
+abbrev pub clockTests : List ℕ → List Test
+clockTests s = cells 13 3 (clockCells (digit (char s 4))) s
 
 -- "Kind 5: 4th is 0; 5th to 7th a row of table 8; 8th one of 0 1 2 3 4 5 6 8 C; 9th one of 0 to 9, A, C."
 -- "The 63 rows: 11 to 17, 21 to 25, 41 to 49, 53, 61 to 67, 72, 81, 82, 91, 92, B1 to B7, W1, W2 with condition 0;
@@ -125,29 +137,43 @@ row s = test 8 5 (inTable table8 (char s 5) (char s 6) (char s 7))
 abbrev pub limitCells : List Cell
 limitCells = set "01234568C" ∷ set "0123456789AC" ∷ []
 
+-- The tests of kind 5.
+abbrev pub eventTests : List ℕ → List Test
+eventTests s = cells 1 3 (set "0" ∷ []) s ++ (row s ∷ cells 9 7 limitCells s)
+
 -- "Kind 6: 4th is 1 to 5; 5th 0 or 1; 6th and 8th 0, 9 or A; 7th and 9th 0 or 9; 10th 0 or A to X; 4th equals the non-zero number of
 -- 5th to 10th."
 abbrev pub outsideCells : List Cell
 outsideCells = set "12345" ∷ set "01" ∷ set "09A" ∷ set "09" ∷ set "09A" ∷ set "09" ∷ set hoursOr0 ∷ []
 
--- "Kind 7: 4th and 5th are one of 10 20 30 40 60 3A 4A 6A 12 1N 23 34 45": by the 4th, what may stand 5th.
-abbrev pub pairs : ℕ → String
-pairs c =
-    cond (among "1" c) "02N" (cond (among "2" c) "03" (cond (among "3" c) "0A4" (cond (among "4" c) "0A5" (cond (among "6" c) "0A" ""))))
+-- The tests of kind 6.
+abbrev pub outsideTests : List ℕ → List Test
+outsideTests s = cells 13 3 outsideCells s ++ (counted s ∷ [])
+
+-- "Kind 7: 4th and 5th are one of 10 20 30 40 60 3A 4A 6A 12 1N 23 34 45."
+abbrev pub pairs : List String
+pairs = "10" ∷ "20" ∷ "30" ∷ "40" ∷ "60" ∷ "3A" ∷ "4A" ∷ "6A" ∷ "12" ∷ "1N" ∷ "23" ∷ "34" ∷ "45" ∷ []
+
+-- Two characters are one of the pairs.
+unfoldable pub inPairs : List String → ℕ → ℕ → Bool
+inPairs [] a b = false
+inPairs (x ∷ xs) a b = cond (eqb a (at x 0) && eqb b (at x 1)) true (inPairs xs a b)
 
 -- The test of the pair.
 abbrev pub pair : List ℕ → Test
-pair s = test 8 4 (among (pairs (char s 4)) (char s 5))
+pair s = test 8 4 (inPairs pairs (char s 4) (char s 5))
+
+-- The tests of kind 7.
+abbrev pub pairTests : List ℕ → List Test
+pairTests s = pair s ∷ cells 11 5 [] s
 
 -- The tests of the 4th to the 16th character, by the timing kind.
 unfoldable pub timing : List ℕ → List Test
 timing s =
-    cond (among "1" (char s 3)) (cells 13 3 mealCells s ++ (counted s ∷ atFifteen s ∷ []))
-    (cond (among "2" (char s 3)) (cells 13 3 everyCells s)
-    (cond (among "3" (char s 3)) (cells 13 3 (clockCells (digit (char s 4))) s)
-    (cond (among "5" (char s 3)) (cells 1 3 (set "0" ∷ []) s ++ (row s ∷ cells 9 7 limitCells s))
-    (cond (among "6" (char s 3)) (cells 13 3 outsideCells s ++ (counted s ∷ []))
-    (pair s ∷ cells 11 5 [] s)))))
+    cond (among "1" (char s 3)) (mealTests s)
+    (cond (among "2" (char s 3)) (everyTests s)
+    (cond (among "3" (char s 3)) (clockTests s)
+    (cond (among "5" (char s 3)) (eventTests s) (cond (among "6" (char s 3)) (outsideTests s) (pairTests s)))))
 
 -- What a code says: of what its kind does not name, an hour is 24 and anything else is 0.
 abbrev pub noOccasions : Occasions

@@ -7,9 +7,8 @@ ghost use lib.ListN.{length};
 ghost use Rattle.cells.specs.Text.{digit as digitOf};
 ghost use Rattle.cells.specs.Test.{test as testOf, first, judge};
 ghost use Rattle.cells.specs.Code.Mask.{value, has};
-ghost use Rattle.usage.specs.Usage.{hour as hourOf, used as usedOf, frame, occasions, counted, fullDay, atFifteen, table8, inTable, timing, meals as mealsOf, outside as outsideOf, clock as clockOf, eventOf, says, readUsage, said as saidOf};
+ghost use Rattle.usage.specs.Usage.{hour as hourOf, used as usedOf, frame, occasions, counted, fullDay, atFifteen, table8, inTable, timing, meals as mealsOf, outside as outsideOf, clock as clockOf, eventOf, says, readUsage, said as saidOf, mealTests, everyTests, clockTests, eventTests, outsideTests, pairTests};
 ghost use Rattle.usage.specs.Code.Sets.{details as detailSet, kinds as kindSet, pairs as pairSet, inRow};
-ghost use Rattle.usage.specs.Code.Tests.{mealTests, everyTests, clockTests, eventTests, outsideTests, pairTests};
 
 // Kinds 1 and 6. Bedtime and waking are 1 where they are meant. Kind 1: supper, lunch and breakfast are 0 where they are not meant, else
 // 1 before, 2 just before, 6 during, 3 just after, 4 after, 5 two hours after; the hour is 15 or none. Kind 6, where they are evening,

@@ -2,21 +2,21 @@
 -- Assumes nothing.
 use Prim.Native.Nat.{ℕ, zero, suc}
 use Prim.Native.String.{String}
-use mathlib.Core.Path.{_≡_, refl}
+use mathlib.Core.Path.{_≡_, refl, _∙_, sym, ap}
 use mathlib.Core.Bool.{Bool, true, false, cond, _&&_}
 use mathlib.Core.List.{List, [], _∷_, _++_, append-nil}
 use native.Mathlib.Omega.{arith}
-use borrow.Author.Tests.{eq-eqb}
+use borrow.Author.Tests.{eq-eqb, eqb-true}
 use lib.Dec.{eqb}
 use lib.ListN.{length}
-use Rattle.cells.specs.Text.{among, index, digit}
+use Rattle.cells.specs.Text.{among, index, at, digit}
 use Rattle.cells.specs.Test.{test, first}
 use Rattle.cells.specs.Cells.{char, set, cells}
 use Rattle.cells.specs.Code.Mask.{letter}
 use Rattle.cells.proofs.Split.{split}
 use Rattle.cells.proofs.Alike.{and-left, and-right, alike, each}
 use Rattle.cells.proofs.Back.{passed, in-sets}
-use Rattle.usage.specs.Usage.{hour, used, details, kinds, frame, mealCells, counted, atFifteen, everyCells, clockCells, Rows, table8, inTable, row, limitCells, outsideCells, pairs, timing, says}
+use Rattle.usage.specs.Usage.{hour, used, details, kinds, frame, mealCells, counted, atFifteen, everyCells, clockCells, Rows, table8, inTable, row, limitCells, outsideCells, pairs, inPairs, timing, says}
 use Rattle.usage_writer.specs.Code.Write.{hourLetter, mark, tail, raw}
 use Rattle.usage.proofs.Masks.{bit}
 use Rattle.usage_writer.proofs.Printed.{part, whole, kept, printed}
@@ -180,27 +180,25 @@ value-row : (a b c : ℕ) → inTable table8 a b c ≡ true → (asValue a ≡ a
 unfolding lettered letter digit index
 value-row a b c = values-in a b c table8 refl
 
--- a pair of kind 7
-value-second : (a b : ℕ) → among (pairs a) b ≡ true → asValue b ≡ b
-unfolding letter digit index
-value-second a =
-    in-value (pairs a)
-    (chosen _ _ (among "1" a) _ _ refl
-    (chosen _ _ (among "2" a) _ _ refl
-    (chosen _ _ (among "3" a) _ _ refl (chosen _ _ (among "4" a) _ _ refl (chosen _ _ (among "6" a) _ _ refl refl)))))
+-- the characters of a pair of kind 7
+spelt : List String → Bool
+spelt [] = true
+spelt (x ∷ xs) = eqb (asValue (at x 0)) (at x 0) && (eqb (asValue (at x 1)) (at x 1) && spelt xs)
 
-nothing : (b : ℕ) → among "" b ≡ true → ⊥
-unfolding among
-nothing b e = let z : _≡_ {A = ℕ} 0 1 = cc in omega arith
+values-of : (a b : ℕ) (xs : List String) → spelt xs ≡ true → inPairs xs a b ≡ true → (asValue a ≡ a) × (asValue b ≡ b)
+unfolding spelt inPairs
+values-of a b [] t h = absurd (let z : _≡_ {A = ℕ} 0 1 = cc in omega arith)
+values-of a b (x ∷ xs) t h =
+    let u : eqb (asValue (at x 1)) (at x 1) && spelt xs ≡ true = and-right (eqb (asValue (at x 0)) (at x 0)) _ t in
+    split (eqb a (at x 0) && eqb b (at x 1))
+    (λ e. let p : a ≡ at x 0 = eqb-true _ _ (and-left _ _ e) in
+    let q : b ≡ at x 1 = eqb-true _ _ (and-right (eqb a (at x 0)) _ e) in
+    (ap asValue p ∙ eqb-true _ _ (and-left _ _ t) ∙ sym p, ap asValue q ∙ eqb-true _ _ (and-left _ _ u) ∙ sym q))
+    (λ e. values-of a b xs (and-right (eqb (asValue (at x 1)) (at x 1)) _ u) (simp e at h))
 
-value-first : (a b : ℕ) → among (pairs a) b ≡ true → asValue a ≡ a
-unfolding letter digit index
-value-first a b h =
-    split (among "1" a) (in-value "1" refl a)
-    (λ p. split (among "2" a) (in-value "2" refl a)
-    (λ q. split (among "3" a) (in-value "3" refl a)
-    (λ r. split (among "4" a) (in-value "4" refl a)
-    (λ t. split (among "6" a) (in-value "6" refl a) (λ u. absurd (nothing b (simp (p, q, r, t, u) at h)))))))
+value-pair : (a b : ℕ) → inPairs pairs a b ≡ true → (asValue a ≡ a) × (asValue b ≡ b)
+unfolding spelt letter digit index at
+value-pair a b = values-of a b pairs refl
 
 module _ (s : List ℕ) (long : length s ≡ 16) (clean : first (frame s ++ timing s) .number ≡ 0) where
   class-stands : (among "12" (char s 1) ≡ true) × (first (test 3 2 (among (details (char s 1)) (char s 2)) ∷ test 4 3 (among (kinds (char s 1) (char s 2)) (char s 3)) ∷ timing s) .number ≡ 0)
@@ -270,9 +268,10 @@ module _ (s : List ℕ) (long : length s ≡ 16) (clean : first (frame s ++ timi
           pair e =
               let g : among "7" (char s 3) ≡ true = bit _ (eq-eqb _ _ (simp (a, b, d, f, e) at (last-kind (char s 3) six))) in
               let r = passed _ 8 4 (cells 11 5 [] s) (λ z. omega arith) (simp (a, b, d, f, e) at (kind-stands .1)) in
+              let v = value-pair (char s 4) (char s 5) (r .0) in
               let l = in-sets 11 5 [] s [] (rw append-nil (r .1)) in
               simp (says-1 (char s 3) six, says-2 (char s 3) six, says-3 (char s 3) six, says-5 (char s 3) six, says-6 (char s 3) six, a, b, d, f, e, g)
-              (join _ (cc (value-first (char s 4) (char s 5) (r .0), value-second (char s 4) (char s 5) (r .0), printed (unreads 11) [] 5 s refl (l .0))))
+              (join _ (cc (v .0, v .1, printed (unreads 11) [] 5 s refl (l .0))))
 
   pub sixteen : raw (says s) ≡ s
   sixteen =

@@ -7,7 +7,7 @@ use mathlib.Core.List.{List, [], _∷_, map}
 use Rattle.cells.specs.Text.{among, index, digit, bytes}
 use Rattle.cells.specs.Test.{first, Answer, took, refused}
 use Rattle.cells.specs.Cells.{cells}
-use Rattle.usage.specs.Usage.{hour, used, inTable, timing, says, readUsage, noOccasions, noHours, noEvent}
+use Rattle.usage.specs.Usage.{hour, used, inTable, inPairs, timing, says, readUsage, noOccasions, noHours, noEvent}
 use Rattle.usage.specs.declared.Occasions.{Occasions}
 use Rattle.usage.specs.declared.Hours.{Hours}
 use Rattle.usage.specs.declared.Instruction.{Instruction}
@@ -95,7 +95,7 @@ rows =
     row (supplement "V31.0NNN") (supplemented (took (saying 86 0 0 noWeek 0 noDays 0 0 3 10 1))) ∷ []
 
 worked : map (λ r. read (r .input)) rows ≡ map (λ r. r .result) rows
-unfolding rows row oral threeHours read bytes among index digit first cells hour used inTable timing says readUsage
+unfolding rows row oral threeHours read bytes among index digit first cells hour used inTable inPairs timing says readUsage
     may next columns figuresOf decimalsOf placesOf lastDay emptyWeek moreDays S.says readSupplement
     upto0 distance lastOf follows allowed eights stop codesOf maskOf daysAt setOf readRun
 worked = refl

@@ -2,6 +2,7 @@
 -- `Rattle.usage.proofs.Masks` and `Rattle.usage.proofs.Table` say that they are what `Usage` says.
 -- Assumes nothing.
 use Prim.Native.Nat.{ℕ}
+use Prim.Native.String.{String}
 use mathlib.Core.Bool.{Bool, cond, _&&_}
 use mathlib.Core.List.{List, [], _∷_}
 use lib.ListN.{getD}
@@ -37,7 +38,12 @@ details class = cond (among "1" class) 0b1111 0x7EFBFC00
 unfoldable pub kinds : ℕ → ℕ → ℕ
 kinds class detail = cond (among "1" class) (cond (among "3" detail) 0b10101110 0b101110) 0b11100000
 
--- the fifth characters of kind 7, by the fourth
+-- the second characters of the pairs of kind 7, by the first
+abbrev pub seconds : ℕ → String
+seconds c =
+    cond (among "1" c) "02N" (cond (among "2" c) "03" (cond (among "3" c) "0A4" (cond (among "4" c) "0A5" (cond (among "6" c) "0A" ""))))
+
+-- the same as a mask
 unfoldable pub pairs : ℕ → ℕ
 pairs c =
     cond (among "1" c) 0x800005
