@@ -1,0 +1,134 @@
+// Answers questions about codes from standard input, a line each, on standard output, a line each:
+//   usage CODE           supplement CODE        CODE is every byte after the first space
+//   run MONTH CODES      set MONTH SET ROOM     SET is CELL:DAY,DAY/CELL:DAY.. or -
+mod ask;
+mod say;
+
+// Room for 1 MiB of questions, and for one byte more by which a longer input is known.
+fn main() {
+    let mut input = [0u8; 1048577];
+    answer_into(&mut input);
+}
+
+// The array as a slice: its length is known by its type, and not by looking at a million bytes.
+fn answer_into(room: &mut [u8; 1048577]) {
+    answer_from(room);
+}
+
+fn answer_from(room: &mut [u8]) {
+    let n = io::read_full(libc::STDIN_FILENO, room);
+    if 1048576 < n {
+        say::words(b"input longer than 1048576 bytes\n");
+        return;
+    }
+    answer_all(&room[0..n]);
+}
+
+// LF ends a line; the last may lack it.
+fn answer_all(input: &[u8]) {
+    let mut at: usize = 0;
+    while at < input.len() {
+        let end = ask::line_end(input, at);
+        answer(&input[at..end]);
+        say::words(b"\n");
+        at = end + 1;
+    }
+}
+
+fn answer(line: &[u8]) {
+    if ask::begins(line, b"usage ") {
+        return on_usage(ask::from(line, 6));
+    }
+    if ask::begins(line, b"supplement ") {
+        return on_supplement(ask::from(line, 11));
+    }
+    if ask::begins(line, b"run ") {
+        return on_run(line);
+    }
+    if ask::begins(line, b"set ") {
+        return on_set(line);
+    }
+    say::unknown()
+}
+
+fn on_usage(code: &[u8]) {
+    match usage::read(code) {
+        usage::Reading::Taken(i) => say::instruction(i),
+        usage::Reading::Refused(f) => say::refusal(f.number, f.place),
+    }
+}
+
+fn on_supplement(code: &[u8]) {
+    match supplement::read(code) {
+        supplement::Reading::Taken(x) => say::supplement(x),
+        supplement::Reading::Refused(f) => say::refusal(f.number, f.place),
+    }
+}
+
+fn on_run(line: &[u8]) {
+    let month = ask::number(line, 4);
+    let at = month.next;
+    if at == 4 {
+        return say::unknown();
+    }
+    if ask::byte(line, at) != b' ' {
+        return say::unknown();
+    }
+    say_run(days::read_run(ask::short(month.value), ask::from(line, ask::after(at))))
+}
+
+fn say_run(r: days::Run) {
+    if r.number == 0 {
+        let days = r.days;
+        return say::days(days);
+    }
+    say::refusal(r.number, r.place);
+    if r.code == 0 {
+        return;
+    }
+    say::words(b" code ");
+    say::number(r.code)
+}
+
+fn on_set(line: &[u8]) {
+    let month = ask::number(line, 4);
+    let at = month.next;
+    if at == 4 {
+        return say::unknown();
+    }
+    if ask::byte(line, at) != b' ' {
+        return say::unknown();
+    }
+    let asked = ask::set(line, ask::after(at));
+    if asked.state != ask::WHOLE {
+        return say::unknown();
+    }
+    on_room(line, asked.at, ask::short(month.value), asked.days)
+}
+
+fn on_room(line: &[u8], at: usize, month: u8, days: days::DaySet) {
+    if ask::byte(line, at) != b' ' {
+        return say::unknown();
+    }
+    let from = ask::after(at);
+    let room = ask::number(line, from);
+    if room.next == from {
+        return say::unknown();
+    }
+    if room.next != line.len() {
+        return say::unknown();
+    }
+    say_written(month, days, ask::room(room.value))
+}
+
+// The set written into a buffer of so many bytes.
+fn say_written(month: u8, days: days::DaySet, room: usize) {
+    let mut codes = [0u8; 536];
+    if room <= 536 {
+        let w = days::write_run(month, days, &mut codes[0..room]);
+        match w {
+            days::Wrote::Codes(n) => say::codes(n, &codes),
+            days::Wrote::Refused(f) => say::refusal(f.number, f.place),
+        }
+    }
+}
