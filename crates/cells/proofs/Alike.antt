@@ -19,6 +19,9 @@ pub and-right : (a b : Bool) → a && b ≡ true → b ≡ true
 and-right true b h = h
 and-right false b h = absurd (let z : _≡_ {A = ℕ} 0 1 = cc in omega arith)
 
+pub and-parts : (a b : Bool) → a && b ≡ true → (a ≡ true) × (b ≡ true)
+and-parts a b h = (and-left a b h, and-right a b h)
+
 pub same-bool : (a b : Bool) → Bool·beq a b ≡ true → a ≡ b
 same-bool true true h = refl
 same-bool true false h = absurd (let z : _≡_ {A = ℕ} 0 1 = cc in omega arith)

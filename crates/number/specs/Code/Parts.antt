@@ -1,0 +1,23 @@
+-- What the parts of the readers answer.
+-- Assumes nothing.
+use Prim.Native.Nat.{ℕ, _-_}
+use mathlib.Core.Bool.{cond, _&&_}
+use mathlib.Core.List.{List, _++_}
+use lib.Dec.{leb}
+use lib.ListN.{length, replicate}
+use Rattle.number.specs.Number.{value}
+use Rattle.number.specs.Amount.{after, pointed, fraction}
+use Rattle.number.specs.declared.Number.{Number}
+use Rattle.number.specs.declared.Number.the-variants.{Is, Not}
+
+-- a number in its range
+unfoldable pub within : ℕ → ℕ → ℕ → Number
+within lo hi n = cond (leb lo n && leb n hi) (Is n) Not
+
+-- the amount whose whole part is n, with these digits after the point
+unfoldable pub afterPoint : ℕ → List ℕ → Number
+afterPoint n t = cond (fraction t) (Is (value n (t ++ replicate (5 - length t) 48))) Not
+
+-- the amount whose whole part is n, by what stands after it
+unfoldable pub withFraction : ℕ → List ℕ → Number
+withFraction n s = cond (pointed s) (afterPoint n (after s)) (Is (value n (replicate 5 48)))

@@ -1,0 +1,4 @@
+pub mod Number
+pub mod Amount
+pub mod Print
+pub mod Code
