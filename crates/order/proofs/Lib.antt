@@ -1,0 +1,9 @@
+pub mod Search
+pub mod Bools
+pub mod Lists
+pub mod Chain
+pub mod Span
+pub mod Whole
+pub mod Parse
+pub mod Help
+pub mod Laws
