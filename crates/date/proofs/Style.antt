@@ -1,0 +1,134 @@
+-- The rules of dates by style, and what they say of the numbers of a date.
+-- Assumes nothing.
+use Prim.Native.Nat.{ℕ, zero, suc, _+_, _-_, _*_, _≤_}
+use mathlib.Core.Path.{_≡_, refl, _∙_}
+use mathlib.Core.Bool.{Bool, true, false, cond, _&&_}
+use mathlib.Core.List.{List, [], _∷_}
+use native.Mathlib.Omega.{arith}
+use borrow.Author.Tests.{eq-eqb, ne-eqb, le-leb, leb-true}
+use lib.Dec.{leb, eqb}
+use lib.ListN.{length, getD, take}
+use Rattle.number.specs.Number.{figures, value}
+use Rattle.cells.proofs.Split.{split}
+use Rattle.cells.proofs.Alike.{and-parts}
+use Rattle.date.specs.Date.{leap, lastDay, exists, eraAdds, date, inStyle, isDate, two, western, eraDate, held, readDate}
+use Rattle.date.specs.Print.{inWestern, inEra, printDate}
+use Rattle.date.specs.declared.Date.{Date}
+use Rattle.date.specs.declared.Made.the-variants.{None}
+use Rattle.date.proofs.Digits.{first-value, four-value}
+
+-- ---- reading, by the length
+module _ (s : List ℕ) where
+  pub read-none : figures s ≡ false → readDate s ≡ None
+  unfolding readDate
+  read-none h = rw h
+
+  module _ (h : figures s ≡ true) where
+    pub read-other : (length s ≡ 8 → ⊥) → (length s ≡ 7 → ⊥) → readDate s ≡ None
+    unfolding readDate
+    read-other e f = rw (h, ne-eqb (length s) 8 e, ne-eqb (length s) 7 f)
+
+    pub read-eight : length s ≡ 8 → readDate s ≡ held (western s)
+    unfolding readDate
+    read-eight e = rw (h, eq-eqb (length s) 8 e)
+
+    pub read-seven : length s ≡ 7 → readDate s ≡ cond (leb 1 (value 0 (take 1 s))) (held (eraDate s)) None
+    unfolding readDate
+    read-seven e = rw (h, e)
+
+    -- the first of seven digits is 0
+    pub read-zero : length s ≡ 7 → getD s 0 0 - 48 ≡ 0 → readDate s ≡ None
+    read-zero e z = read-seven e ∙ rw (first-value s (omega arith), z)
+
+    -- or it is the era
+    pub read-era : length s ≡ 7 → (getD s 0 0 - 48 ≡ 0 → ⊥) →
+        readDate s ≡ held (date (getD s 0 0 - 48) (eraAdds (getD s 0 0 - 48) + two s 1) (two s 3) (two s 5))
+    read-era e z = read-seven e ∙ rw (first-value s (omega arith), le-leb 1 (getD s 0 0 - 48) (omega arith))
+
+    -- the year of eight digits as two numbers
+    pub read-western : length s ≡ 8 → readDate s ≡ held (date 0 (two s 0 * 100 + two s 2) (two s 4) (two s 6))
+    read-western e = read-eight e ∙ rw (four-value s (omega arith))
+
+-- ---- writing, by the style
+module _ (t : Date) where
+  pub print-none : isDate t ≡ false → printDate t ≡ []
+  unfolding printDate
+  print-none h = rw h
+
+  module _ (h : isDate t ≡ true) where
+    pub print-eight : t .era ≡ 0 → printDate t ≡ inWestern t
+    unfolding printDate
+    print-eight e = rw (h, eq-eqb (t .era) 0 e)
+
+    pub print-seven : (t .era ≡ 0 → ⊥) → printDate t ≡ inEra t
+    unfolding printDate
+    print-seven e = rw (h, ne-eqb (t .era) 0 e)
+
+-- ---- the numbers of a date
+-- an era that is none adds nothing
+pub adds-none : (e : ℕ) → (e ≡ 1 → ⊥) → (e ≡ 2 → ⊥) → (e ≡ 3 → ⊥) → (e ≡ 4 → ⊥) → eraAdds e ≡ 0
+unfolding eraAdds
+adds-none zero a b c d = refl
+adds-none (suc zero) a b c d = absurd (omega arith)
+adds-none (suc (suc zero)) a b c d = absurd (omega arith)
+adds-none (suc (suc (suc zero))) a b c d = absurd (omega arith)
+adds-none (suc (suc (suc (suc zero)))) a b c d = absurd (omega arith)
+adds-none (suc (suc (suc (suc (suc e))))) a b c d = refl
+
+-- none of the days is above a number
+most : List ℕ → ℕ → Bool
+most [] k = true
+most (d ∷ ds) k = leb d k && most ds k
+
+most-at : (ds : List ℕ) (k m : ℕ) → most ds k ≡ true → getD ds m 0 ≤ k
+unfolding most
+most-at [] k m h = omega arith
+most-at (d ∷ ds) k zero h = leb-true d k (and-parts _ _ h .0)
+most-at (d ∷ ds) k (suc m) h = most-at ds k m (and-parts (leb d k) _ h .1)
+
+last-most : (y m : ℕ) → lastDay y m ≤ 31
+unfolding lastDay most
+last-most y m =
+    let t : List ℕ = 0 ∷ 31 ∷ 28 ∷ 31 ∷ 30 ∷ 31 ∷ 30 ∷ 31 ∷ 31 ∷ 30 ∷ 31 ∷ 30 ∷ 31 ∷ [] in
+    split (eqb m 2 && leap y) (λ e. rw e (omega arith)) (λ e. rw e (most-at t 31 m refl))
+
+-- its month and its day,
+pub record Numbers (t : Date) : Type 0 where
+  pub month : t .month ≤ 12
+  pub day : t .day ≤ 31
+
+-- its year in western style, and in era style its era and the year.
+pub record Western (t : Date) : Type 0 where
+  pub from : 1868 ≤ t .year
+  pub upto : t .year ≤ 2099
+
+pub record Era (t : Date) : Type 0 where
+  pub most : t .era ≤ 4
+  pub from : eraAdds (t .era) + 1 ≤ t .year
+  pub upto : t .year ≤ eraAdds (t .era) + 99
+
+module _ (t : Date) (h : isDate t ≡ true) where
+  pub numbers : Numbers t
+  unfolding isDate exists
+  numbers =
+      let a = and-parts (leb 1 (t .month)) _ (and-parts (inStyle t) _ h .1) in
+      let b = and-parts (leb (t .month) 12) _ (a .1) in
+      let d = and-parts (leb 1 (t .day)) _ (b .1) in
+      let l : t .day ≤ lastDay (t .year) (t .month) = leb-true (t .day) _ (d .1) in
+      let m : lastDay (t .year) (t .month) ≤ 31 = last-most (t .year) (t .month) in
+      record { month = leb-true (t .month) 12 (b .0); day = omega arith }
+
+  pub western-year : t .era ≡ 0 → Western t
+  unfolding isDate inStyle
+  western-year e =
+      let i : inStyle t ≡ true = and-parts (inStyle t) _ h .0 in
+      let a = and-parts (leb 1868 (t .year)) _ (simp (eq-eqb (t .era) 0 e) at i) in
+      record { from = leb-true 1868 (t .year) (a .0); upto = leb-true (t .year) 2099 (a .1) }
+
+  pub era-year : (t .era ≡ 0 → ⊥) → Era t
+  unfolding isDate inStyle
+  era-year e =
+      let i : inStyle t ≡ true = and-parts (inStyle t) _ h .0 in
+      let a = and-parts (leb (t .era) 4) _ (simp (ne-eqb (t .era) 0 e) at i) in
+      let b = and-parts (leb (eraAdds (t .era) + 1) (t .year)) _ (a .1) in
+      record { most = leb-true (t .era) 4 (a .0); from = leb-true _ (t .year) (b .0); upto = leb-true (t .year) _ (b .1) }

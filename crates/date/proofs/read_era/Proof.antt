@@ -1,0 +1,62 @@
+-- The era is the first digit, and not 0.
+-- Assumes nothing.
+use mathlib.Core.Path.{sym}
+use native.Mathlib.Omega.{arith}
+use borrow.Author.Needs.{needs}
+use Rattle.date.proofs.Digits.{digit-at}
+use Rattle.date.proofs.Style.{read-zero, read-era}
+use Rattle.date.proofs.read_era.Statement.{statement}
+use Rattle.date.proofs.read_era.Tie as tie
+
+shared-slice-read-era : tie.Need-shared-slice-read-era
+shared-slice-read-era c = search needs
+
+sub-era : tie.Need-sub-era
+sub-era c = let p = c .before .before .pre in digit-at (c .before .before .args .s .now) 0 (p .0) (omega arith) .0
+
+returns : tie.Need-returns
+returns c =
+    let p = c .before .before .before .pre in
+    sym (read-zero (c .before .before .before .args .s .now) (p .0) (p .1) (c .if1 .taken))
+
+era-adds-requires : tie.Need-era-adds-requires
+era-adds-requires c κs = search needs
+
+two-requires : tie.Need-two-requires
+two-requires c κs = search needs
+
+wide-requires : tie.Need-wide-requires
+wide-requires c κs = search needs
+
+add-t8 : tie.Need-add-t8
+add-t8 c = search needs
+
+two-requires-2 : tie.Need-two-requires-2
+two-requires-2 c κs = search needs
+
+two-requires-3 : tie.Need-two-requires-3
+two-requires-3 c κs = search needs
+
+held-requires : tie.Need-held-requires
+held-requires c κs = search needs
+
+returns-2 : tie.Need-returns-2
+returns-2 c =
+    let p = c .before .before .before .before .before .before .before .before .before .pre in
+    cc (read-era (c .before .before .before .before .before .before .before .before .before .args .s .now) (p .0) (p .1) (c .before .before .before .before .before .before .if1 .left))
+
+pub read-era-spec : {M : Type 1} → statement M
+read-era-spec =
+    tie.close
+    (tie.spec
+    shared-slice-read-era
+    sub-era
+    returns
+    era-adds-requires
+    two-requires
+    wide-requires
+    add-t8
+    two-requires-2
+    two-requires-3
+    held-requires
+    returns-2)

@@ -1,0 +1,4 @@
+pub mod Steps
+pub mod Frame
+pub mod Fields
+pub mod Laws

@@ -1,0 +1,110 @@
+// Lines and fields: the frame of a file, and where a field ends.
+use cells::Fault;
+ghost use mathlib.Core.Path.{_≡_};
+ghost use Rattle.line.specs.Frame.{plain as plainOf, inLine, next as nextOf, frameFault};
+ghost use Rattle.line.specs.Fields.{ends as endsOf, fieldEnd};
+
+// What has been read of a file: a line or nothing, a line and its CR, lines with their CR LF, all, or what no file begins with.
+const LINE: u8 = 0;
+
+const RETURN: u8 = 1;
+
+const LINES: u8 = 2;
+
+const ALL: u8 = 3;
+
+const WRONG: u8 = 4;
+
+// A byte that may stand in a line.
+fn plain(b: u8) -> bool
+    ensures { λ r. ⌜ r ≡ plainOf b ⌝ }
+{
+    (0x20 <= b) & (b != 0x7f)
+}
+
+// After a byte of a line, or the CR at its end.
+fn in_line(b: u8) -> u8
+    ensures { λ r. ⌜ r ≡ inLine b ⌝ }
+{
+    if b == b'\r' {
+        return RETURN;
+    }
+    if plain(b) {
+        return LINE;
+    }
+    WRONG
+}
+
+// What has been read with one more byte.
+fn next(state: u8, b: u8) -> u8
+    ensures { λ r. ⌜ r ≡ nextOf state b ⌝ }
+{
+    if state == LINE {
+        return in_line(b);
+    }
+    if state == RETURN {
+        if b == b'\n' {
+            return LINES;
+        }
+        return WRONG;
+    }
+    if state == LINES {
+        if b == 0x1a {
+            return ALL;
+        }
+        return in_line(b);
+    }
+    WRONG
+}
+
+// The first byte that no well framed file has there: 21 at its offset, or at the end; 0 where the file is well framed.
+pub fn frame_fault(s: &[u8]) -> Fault
+    ensures { λ r. ⌜ r ≡ frameFault (now (s .entry)) ⌝ }
+{
+    let mut state = LINE;
+    let mut i: usize = 0;
+    while i < s.len() {
+        state = next(state, s[i]);
+        if state == WRONG {
+            return Fault {
+                number: 21,
+                place: i,
+            };
+        }
+        i += 1;
+    }
+    if state == ALL {
+        return Fault {
+            number: 0,
+            place: 0,
+        };
+    }
+    Fault {
+        number: 21,
+        place: i,
+    }
+}
+
+// The comma after a field, or the CR after the last.
+fn ends(b: u8) -> bool
+    ensures { λ r. ⌜ r ≡ endsOf b ⌝ }
+{
+    (b == b',') | (b == b'\r')
+}
+
+// The offset of the first comma or CR from an offset on, or the length.
+pub fn field_end(s: &[u8], at: usize) -> usize
+    ensures { λ r. ⌜ r ≡ fieldEnd (now (s .entry)) at ⌝ }
+{
+    if s.len() < at {
+        return s.len();
+    }
+    let mut i = at;
+    while i < s.len() {
+        if ends(s[i]) {
+            return i;
+        }
+        i += 1;
+    }
+    i
+}
