@@ -33,6 +33,14 @@ pub fn begins(line: &[u8], word: &[u8]) -> bool {
     true
 }
 
+// Is a text this word?
+pub fn is(text: &[u8], word: &[u8]) -> bool {
+    if text.len() != word.len() {
+        return false;
+    }
+    begins(text, word)
+}
+
 // What stands from an offset on.
 pub fn from(line: &[u8], at: usize) -> &[u8] {
     if line.len() < at {
@@ -96,6 +104,30 @@ fn longer(value: usize, c: u8) -> usize {
         return value * 10 + (c - b'0') as usize;
     }
     value
+}
+
+// A number with a space after it, and where the next word begins; 0 where there is no such number. No number begins at 0, so what follows a
+// broken number is broken too.
+pub fn spaced(line: &[u8], at: usize) -> Held {
+    let n = number(line, at);
+    if n.next == at {
+        return Held { value: 0, next: 0 };
+    }
+    if byte(line, n.next) == b' ' {
+        return Held {
+            value: n.value,
+            next: after(n.next),
+        };
+    }
+    Held { value: 0, next: 0 }
+}
+
+// A year as the library takes it; a larger number is no year either.
+pub fn wide(value: usize) -> u16 {
+    if value < 65535 {
+        return value as u16;
+    }
+    65535
 }
 
 // A month as the library takes it; a larger number is no month either.

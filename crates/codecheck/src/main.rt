@@ -1,6 +1,7 @@
 // Answers questions about codes from standard input, a line each, on standard output, a line each:
 //   usage CODE           supplement CODE        CODE is every byte after the first space
 //   run MONTH CODES      set MONTH SET ROOM     SET is CELL:DAY,DAY/CELL:DAY.. or -
+//   date YEAR MONTH DAY STYLE                   STYLE is none, era or western
 mod ask;
 mod say;
 
@@ -47,6 +48,9 @@ fn answer(line: &[u8]) {
     }
     if ask::begins(line, b"set ") {
         return on_set(line);
+    }
+    if ask::begins(line, b"date ") {
+        return on_date(line);
     }
     say::unknown()
 }
@@ -131,4 +135,27 @@ fn say_written(month: u8, days: days::DaySet, room: usize) {
             days::Wrote::Refused(f) => say::refusal(f.number, f.place),
         }
     }
+}
+
+fn on_date(line: &[u8]) {
+    let year = ask::spaced(line, 5);
+    let month = ask::spaced(line, year.next);
+    let day = ask::spaced(line, month.next);
+    if day.next == 0 {
+        return say::unknown();
+    }
+    on_style(ask::from(line, day.next), ask::wide(year.value), ask::short(month.value), ask::short(day.value))
+}
+
+fn on_style(style: &[u8], year: u16, month: u8, day: u8) {
+    if ask::is(style, b"none") {
+        return say::made(date::Date::of(year, month, day));
+    }
+    if ask::is(style, b"era") {
+        return say::made(date::Date::era(year, month, day));
+    }
+    if ask::is(style, b"western") {
+        return say::made(date::Date::western(year, month, day));
+    }
+    say::unknown()
 }

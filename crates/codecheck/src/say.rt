@@ -1,4 +1,6 @@
 // Answers in words, on standard output.
+use date::Date;
+use date::Made;
 use days::DaySet;
 use supplement::Days;
 use supplement::Supplement;
@@ -48,6 +50,22 @@ pub fn refusal(code: u8, place: usize) {
     named(b"refused ", code);
     words(b" ");
     number(place)
+}
+
+// A date as it is written.
+fn day_text(t: Date) {
+    let p = date::print(t);
+    let bytes = p.bytes;
+    let n = p.length as usize;
+    words(b"taken ");
+    words(first(&bytes, n));
+}
+
+pub fn made(m: Made) {
+    match m {
+        Made::Day(t) => day_text(t),
+        Made::None => refusal(27, 0),
+    }
 }
 
 pub fn instruction(i: Instruction) {

@@ -1,0 +1,17 @@
+-- The answer is made of what the two calls ensure.
+-- Assumes nothing.
+use borrow.Author.Needs.{needs}
+use Rattle.schedule.proofs.with.Statement.{statement}
+use Rattle.schedule.proofs.with.Tie as tie
+
+last-day-requires : tie.Need-last-day-requires
+last-day-requires c κs = search needs
+
+full-requires : tie.Need-full-requires
+full-requires c κs = search needs
+
+returns : tie.Need-returns
+returns c = cc
+
+pub with-spec : {M : Type 1} → statement M
+with-spec = tie.close (tie.spec last-day-requires full-requires returns)
