@@ -144,7 +144,12 @@ fn on_date(line: &[u8]) {
     if day.next == 0 {
         return say::unknown();
     }
-    on_style(ask::from(line, day.next), ask::wide(year.value), ask::short(month.value), ask::short(day.value))
+    on_style(
+        ask::from(line, day.next),
+        ask::wide(year.value),
+        ask::short(month.value),
+        ask::short(day.value),
+    )
 }
 
 fn on_style(style: &[u8], year: u16, month: u8, day: u8) {
