@@ -1,7 +1,7 @@
 -- What holds of a file's frame and of the fields of a line, over the rules alone; and files worked by hand.
 -- Each contract gives its answer by an equation, so that two answers that meet it are equal.
 -- Assumes nothing.
-use Prim.Native.Nat.{ℕ, zero, suc, _+_, _<_, _≤_}
+use Prim.Native.Nat.{ℕ, zero, suc, _+_, _-_, _<_, _≤_}
 use mathlib.Core.Path.{_≡_, refl, _∙_, sym, ap, subst}
 use mathlib.Core.Bool.{true}
 use mathlib.Core.Logic.{_↔_}
@@ -112,6 +112,12 @@ take-drop : (n p : ℕ) (l : List ℕ) → take n (drop p l) ≡ drop p (take (p
 take-drop n zero l = rw zero-add
 take-drop n (suc p) [] = rw suc-add (take-nil n)
 take-drop n (suc p) (x ∷ l) = rw suc-add (take-drop n p l)
+
+-- A part of the file from one offset to another is the bytes between them.
+pub part : (s : List ℕ) (from to : ℕ) → from ≤ to → take (to - from) (drop from s) ≡ slice from to s
+part s from to h =
+    let e : from + (to - from) ≡ to = omega arith in
+    take-drop (to - from) from s ∙ ap (λ (n : ℕ). drop from (take n s)) e
 
 -- A field ends in the file,
 pub end-most : (s : List ℕ) (at : ℕ) → fieldEnd s at ≤ length s

@@ -1,0 +1,23 @@
+-- By the two answers of the reader.
+-- Assumes nothing.
+use borrow.Author.Needs.{needs}
+use Rattle.field.proofs.is_date.Statement.{statement}
+use Rattle.field.proofs.is_date.Tie as tie
+
+read-requires : tie.Need-read-requires
+read-requires c κs = search needs
+
+enum-told : tie.Need-enum-told
+enum-told c = search needs
+
+enum-told-2 : tie.Need-enum-told-2
+enum-told-2 c = search needs
+
+returns : tie.Need-returns
+returns c = rw (← c .before .before .read .ensures, c .enum-told .given .1)
+
+returns-2 : tie.Need-returns-2
+returns-2 c = rw (← c .before .before .read .ensures, c .enum-told2 .given .1)
+
+pub is-date-spec : {M : Type 1} → statement M
+is-date-spec = tie.close (tie.spec read-requires enum-told enum-told-2 returns returns-2)

@@ -1,0 +1,53 @@
+-- By the form.
+-- Assumes nothing.
+use borrow.Author.Tests.{eq-eqb, ne-eqb}
+use Rattle.field.specs.Field.{ordered}
+use borrow.Author.Needs.{needs}
+use Rattle.field.proofs.ordered.Statement.{statement}
+use Rattle.field.proofs.ordered.Tie as tie
+
+rises-requires : tie.Need-rises-requires
+rises-requires c κs = search needs
+
+returns : tie.Need-returns
+unfolding ordered
+returns c = simp (eq-eqb _ _ (c .before .if1 .taken)) (c .rises .ensures)
+
+carries-requires : tie.Need-carries-requires
+carries-requires c κs = search needs
+
+returns-2 : tie.Need-returns-2
+unfolding ordered
+returns-2 c = simp (ne-eqb _ _ (c .before .before .before .if1 .left), eq-eqb _ _ (c .before .if2 .taken)) (c .carries .ensures)
+
+next-drug-requires : tie.Need-next-drug-requires
+next-drug-requires c κs = search needs
+
+returns-3 : tie.Need-returns-3
+unfolding ordered
+returns-3 c = simp (ne-eqb _ _ (c .before .before .before .before .before .if1 .left), ne-eqb _ _ (c .before .before .before .if2 .left), eq-eqb _ _ (c .before .if3 .taken)) (c .next-drug .ensures)
+
+next-supplement-requires : tie.Need-next-supplement-requires
+next-supplement-requires c κs = search needs
+
+returns-4 : tie.Need-returns-4
+unfolding ordered
+returns-4 c = simp (ne-eqb _ _ (c .before .before .before .before .before .before .before .if1 .left), ne-eqb _ _ (c .before .before .before .before .before .if2 .left), ne-eqb _ _ (c .before .before .before .if3 .left), eq-eqb _ _ (c .before .if4 .taken)) (c .next-supplement .ensures)
+
+returns-5 : tie.Need-returns-5
+unfolding ordered
+returns-5 c = simp (ne-eqb _ _ (c .before .before .before .before .before .before .if1 .left), ne-eqb _ _ (c .before .before .before .before .if2 .left), ne-eqb _ _ (c .before .before .if3 .left), ne-eqb _ _ (c .if4 .left))
+
+pub ordered-spec : {M : Type 1} → statement M
+ordered-spec =
+    tie.close
+    (tie.spec
+    rises-requires
+    returns
+    carries-requires
+    returns-2
+    next-drug-requires
+    returns-3
+    next-supplement-requires
+    returns-4
+    returns-5)

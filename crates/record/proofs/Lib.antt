@@ -1,0 +1,5 @@
+pub mod Stands
+pub mod Built
+pub mod Whole
+pub mod Same
+pub mod Leaves

@@ -1,0 +1,53 @@
+-- From the values by their places.
+use borrow.Author.Needs.{needs}
+use Rattle.record.proofs.record_181.Statement.{statement}
+use Rattle.record.proofs.record_181.Tie as tie
+
+element-copy-out-t6 : tie.Need-element-copy-out-t6
+element-copy-out-t6 c = search needs
+
+element-copy-out-t10 : tie.Need-element-copy-out-t10
+element-copy-out-t10 c = search needs
+
+element-copy-out-t14 : tie.Need-element-copy-out-t14
+element-copy-out-t14 c = search needs
+
+array-copy-out-placed : tie.Need-array-copy-out-placed
+array-copy-out-placed c = search needs
+
+placed-requires : tie.Need-placed-requires
+placed-requires c κs = search needs
+
+array-copy-out-placed-2 : tie.Need-array-copy-out-placed-2
+array-copy-out-placed-2 c = search needs
+
+placed-requires-2 : tie.Need-placed-requires-2
+placed-requires-2 c κs = search needs
+
+supplement-at-requires : tie.Need-supplement-at-requires
+supplement-at-requires c κs = search needs
+
+array-copy-out-placed-3 : tie.Need-array-copy-out-placed-3
+array-copy-out-placed-3 c = search needs
+
+placed-requires-3 : tie.Need-placed-requires-3
+placed-requires-3 c κs = search needs
+
+returns : tie.Need-returns
+returns c = cc
+
+pub record-181-spec : {M : Type 1} → statement M
+record-181-spec =
+    tie.close
+    (tie.spec
+    element-copy-out-t6
+    element-copy-out-t10
+    element-copy-out-t14
+    array-copy-out-placed
+    placed-requires
+    array-copy-out-placed-2
+    placed-requires-2
+    supplement-at-requires
+    array-copy-out-placed-3
+    placed-requires-3
+    returns)

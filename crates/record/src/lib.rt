@@ -1,0 +1,451 @@
+// The records of a prescription file: what a line is read as, and what a record leaves for those after it.
+use counter::DrugSerial;
+use counter::RpNumber;
+use counter::SupplementSerial;
+use date::Date;
+use date::Made;
+use field::Sofar;
+use number::Number;
+use row::Row;
+use row::Value;
+use schedule::Schedule;
+use supplement::Supplement;
+use usage::Instruction;
+ghost use mathlib.Core.Path.{_≡_};
+ghost use Prim.Native.Nat.{_≤_};
+ghost use lib.ListN.{length};
+ghost use Rattle.date.specs.Date.{readDate};
+ghost use Rattle.usage.specs.Usage.{readUsage};
+ghost use Rattle.supplement.specs.Supplement.{readSupplement};
+ghost use Rattle.number.specs.Number.{readNumber};
+ghost use Rattle.schedule.specs.Code.Kept.{mayJoin};
+ghost use Rattle.record.specs.Record.{textAt, keptField, dateIn, usageIn, supplementIn, withLast, withCode, start as startOf, after as afterOf};
+ghost use Rattle.record.specs.Line.{refusal, rowRefusal, numberIn, lineAt};
+ghost use Rattle.record.specs.Code.Built.{placeIn, built51, built101, built111, built181, built201, builtOf, refusedLine, fieldsLine};
+
+// A text as its place in the file: from its first byte to the one after its last.
+pub struct Place {
+    pub from: usize,
+    pub to: usize,
+}
+
+pub enum UsageCode {
+    Is(Instruction),
+    Empty,
+}
+
+pub enum SupplementCode {
+    Is(Supplement),
+    Empty,
+}
+
+// The date of issue.
+pub struct Record51 {
+    pub date: Date,
+}
+
+// An RP begins: its dosage form, the form's name, its quantity.
+pub struct Record101 {
+    pub rp: RpNumber,
+    pub form: u16,
+    pub name: Place,
+    pub quantity: u16,
+}
+
+// Its usage. A number that may be empty is 0 then, here and below.
+pub struct Record111 {
+    pub rp: RpNumber,
+    pub kind: u16,
+    pub code: UsageCode,
+    pub name: Place,
+    pub times: u16,
+}
+
+// A supplement to it.
+pub struct Record181 {
+    pub rp: RpNumber,
+    pub serial: SupplementSerial,
+    pub kind: u16,
+    pub text: Place,
+    pub code: SupplementCode,
+    pub site: Place,
+}
+
+// A drug: `coding` is the code kind; its amount is in hundred-thousandths.
+pub struct Record201 {
+    pub rp: RpNumber,
+    pub serial: DrugSerial,
+    pub kind: u16,
+    pub coding: u16,
+    pub code: Place,
+    pub name: Place,
+    pub amount: u64,
+    pub flag: u16,
+    pub unit: Place,
+}
+
+// Any other record: its number, and its fields with the commas between them.
+pub struct Kept {
+    pub number: u16,
+    pub fields: Place,
+}
+
+pub enum Record {
+    Issue(Record51),
+    Rp(Record101),
+    Usage(Record111),
+    Supplement(Record181),
+    Drug(Record201),
+    Kept(Kept),
+}
+
+// One of document 01's numbers; the offset of the record's first byte (for 20 to 22, of the byte at fault); the field, counted from 1, or 0;
+// for 29 the code's own number and place.
+pub struct Refusal {
+    pub number: u8,
+    pub at: usize,
+    pub field: usize,
+    pub code: u8,
+    pub place: usize,
+}
+
+pub enum Answer {
+    Took(Record),
+    Refused(Refusal),
+}
+
+// What a line is read as, and where the next one begins; 0 after a refusal.
+pub struct Line {
+    pub answer: Answer,
+    pub next: usize,
+}
+
+// A text of a record: that part of the file; nothing where the file has no such place.
+pub fn text(s: &[u8], p: Place) -> &[u8]
+    ensures { λ r. ⌜ now r ≡ textAt (now (s .entry)) p ⌝ }
+{
+    let from = p.from;
+    let to = p.to;
+    if to < from {
+        return &s[0..0];
+    }
+    if s.len() < to {
+        return &s[0..0];
+    }
+    &s[from..to]
+}
+
+// The nth field, counted from 1, of a record that is kept; nothing where it has fewer.
+pub fn kept_field(s: &[u8], k: Kept, n: usize) -> &[u8]
+    ensures { λ r. ⌜ now r ≡ keptField (now (s .entry)) k n ⌝ }
+{
+    let from = k.fields.from;
+    row::nth_field(s, from, n)
+}
+
+// ---- what the fields are read as
+
+fn placed(v: Value) -> Place
+    ensures { λ r. ⌜ r ≡ placeIn v ⌝ }
+{
+    Place {
+        from: v.from,
+        to: v.to,
+    }
+}
+
+fn date_at(s: &[u8], p: Place) -> Date
+    ensures { λ r. ⌜ r ≡ dateIn (readDate (textAt (now (s .entry)) p)) ⌝ }
+{
+    match date::read(text(s, p)) {
+        Made::Day(d) => d,
+        Made::None => Date {
+            era: 0,
+            year: 0,
+            month: 0,
+            day: 0,
+        },
+    }
+}
+
+fn usage_at(s: &[u8], p: Place) -> UsageCode
+    ensures { λ r. ⌜ r ≡ usageIn (readUsage (textAt (now (s .entry)) p)) ⌝ }
+{
+    match usage::read(text(s, p)) {
+        usage::Reading::Taken(i) => UsageCode::Is(i),
+        usage::Reading::Refused(_) => UsageCode::Empty,
+    }
+}
+
+fn supplement_at(s: &[u8], p: Place) -> SupplementCode
+    ensures { λ r. ⌜ r ≡ supplementIn (readSupplement (textAt (now (s .entry)) p)) ⌝ }
+{
+    match supplement::read(text(s, p)) {
+        supplement::Reading::Taken(x) => SupplementCode::Is(x),
+        supplement::Reading::Refused(_) => SupplementCode::Empty,
+    }
+}
+
+fn record_51(s: &[u8], v: [Value; 9]) -> Record
+    ensures { λ r. ⌜ r ≡ built51 (now (s .entry)) v ⌝ }
+{
+    Record::Issue(Record51 {
+        date: date_at(s, placed(v[0])),
+    })
+}
+
+fn record_101(v: [Value; 9]) -> Record
+    ensures { λ r. ⌜ r ≡ built101 v ⌝ }
+{
+    Record::Rp(Record101 {
+        rp: RpNumber(v[0].n),
+        form: v[1].n,
+        name: placed(v[2]),
+        quantity: v[3].n,
+    })
+}
+
+fn record_111(s: &[u8], v: [Value; 9]) -> Record
+    ensures { λ r. ⌜ r ≡ built111 (now (s .entry)) v ⌝ }
+{
+    Record::Usage(Record111 {
+        rp: RpNumber(v[0].n),
+        kind: v[1].n,
+        code: usage_at(s, placed(v[2])),
+        name: placed(v[3]),
+        times: v[4].n,
+    })
+}
+
+fn record_181(s: &[u8], v: [Value; 9]) -> Record
+    ensures { λ r. ⌜ r ≡ built181 (now (s .entry)) v ⌝ }
+{
+    Record::Supplement(Record181 {
+        rp: RpNumber(v[0].n),
+        serial: SupplementSerial(v[1].n),
+        kind: v[2].n,
+        text: placed(v[3]),
+        code: supplement_at(s, placed(v[4])),
+        site: placed(v[5]),
+    })
+}
+
+fn record_201(v: [Value; 9]) -> Record
+    ensures { λ r. ⌜ r ≡ built201 v ⌝ }
+{
+    Record::Drug(Record201 {
+        rp: RpNumber(v[0].n),
+        serial: DrugSerial(v[1].n),
+        kind: v[2].n,
+        coding: v[3].n,
+        code: placed(v[4]),
+        name: placed(v[5]),
+        amount: v[6].amount,
+        flag: v[7].n,
+        unit: placed(v[8]),
+    })
+}
+
+// The record of a number and its values; `fields` is the place of them all, by which a kept record keeps them.
+fn record_of(n: u16, s: &[u8], v: [Value; 9], fields: Place) -> Record
+    ensures { λ r. ⌜ r ≡ builtOf n (now (s .entry)) v fields ⌝ }
+{
+    if n == 51 {
+        return record_51(s, v);
+    }
+    if n == 101 {
+        return record_101(v);
+    }
+    if n == 111 {
+        return record_111(s, v);
+    }
+    if n == 181 {
+        return record_181(s, v);
+    }
+    if n == 201 {
+        return record_201(v);
+    }
+    Record::Kept(Kept {
+        number: n,
+        fields: fields,
+    })
+}
+
+// ---- lines
+
+fn refused(number: u8, at: usize) -> Line
+    ensures { λ r. ⌜ r ≡ refusedLine (refusal number at) ⌝ }
+{
+    Line {
+        answer: Answer::Refused(Refusal {
+            number: number,
+            at: at,
+            field: 0,
+            code: 0,
+            place: 0,
+        }),
+        next: 0,
+    }
+}
+
+fn refused_row(at: usize, w: Row) -> Line
+    ensures { λ r. ⌜ r ≡ refusedLine (rowRefusal at w) ⌝ }
+{
+    Line {
+        answer: Answer::Refused(Refusal {
+            number: w.number,
+            at: at,
+            field: w.field,
+            code: w.code,
+            place: w.place,
+        }),
+        next: 0,
+    }
+}
+
+// The record's number, 0 where it is none.
+fn record_number(f: &[u8]) -> u16
+    ensures { λ r. ⌜ r ≡ numberIn (readNumber 1 999 (now (f .entry))) ⌝ }
+{
+    match number::read(f, 1, 999) {
+        Number::Is(n) => (n % 65536) as u16,
+        Number::Not => 0,
+    }
+}
+
+// The fields of the record at a place, of which the first begins at `from`, where they are right.
+fn read_fields(c: Sofar, s: &[u8], at: usize, n: u16, from: usize) -> Line
+    requires { ⌜ from ≤ length (now s) ⌝ }
+    ensures { λ r. ⌜ r ≡ fieldsLine (mayJoin (c .month) (c .schedule)) c (now (s .entry)) at n from ⌝ }
+{
+    let w = row::read(c, s, n, from);
+    if w.number != 0 {
+        return refused_row(at, w);
+    }
+    let values = w.values;
+    let fields = Place {
+        from: from,
+        to: w.after - 1,
+    };
+    Line {
+        answer: Answer::Took(record_of(n, s, values, fields)),
+        next: w.after + 1,
+    }
+}
+
+// Reads the line at a place of the file, after what the records before leave.
+pub fn read(c: Sofar, s: &[u8], at: usize) -> Line
+    ensures { λ r. ⌜ r ≡ lineAt (mayJoin (c .month) (c .schedule)) c (now (s .entry)) at ⌝ }
+{
+    if s.len() < at {
+        return refused(23, at);
+    }
+    let end = line::field_end(s, at);
+    let n = record_number(&s[at..end]);
+    let verdict = order::follow(c.last, n);
+    if verdict != 0 {
+        return refused(verdict, at);
+    }
+    if row::line_ends(s, end) {
+        return refused(25, at);
+    }
+    read_fields(c, s, at, n, end + 1)
+}
+
+// ---- what a record leaves
+
+fn after_issue(c: Sofar, x: Record51) -> Sofar
+    ensures { λ r. ⌜ r ≡ afterOf c (Record.Issue x) ⌝ }
+{
+    let date = x.date;
+    let mut t = c;
+    t.last = 51;
+    t.month = date.month;
+    t.schedule = schedule::none();
+    t
+}
+
+fn after_rp(c: Sofar, x: Record101) -> Sofar
+    ensures { λ r. ⌜ r ≡ afterOf c (Record.Rp x) ⌝ }
+{
+    let rp = x.rp;
+    let drug = DrugSerial(0);
+    let supplement = SupplementSerial(0);
+    let mut t = c;
+    t.last = 101;
+    t.rp = rp;
+    t.drug = drug;
+    t.supplement = supplement;
+    t.schedule = schedule::none();
+    t
+}
+
+// What is kept of the RP's supplements with one more, or with none.
+fn scheduled(t: Schedule, code: SupplementCode) -> Schedule
+    ensures { λ r. ⌜ r ≡ withCode t code ⌝ }
+{
+    match code {
+        SupplementCode::Is(x) => schedule::with(x),
+        SupplementCode::Empty => t,
+    }
+}
+
+fn after_supplement(c: Sofar, x: Record181) -> Sofar
+    ensures { λ r. ⌜ r ≡ afterOf c (Record.Supplement x) ⌝ }
+{
+    let serial = x.serial;
+    let before = c.schedule;
+    let code = x.code;
+    let mut t = c;
+    t.last = 181;
+    t.supplement = serial;
+    t.schedule = scheduled(before, code);
+    t
+}
+
+fn after_drug(c: Sofar, x: Record201) -> Sofar
+    ensures { λ r. ⌜ r ≡ afterOf c (Record.Drug x) ⌝ }
+{
+    let serial = x.serial;
+    let mut t = c;
+    t.last = 201;
+    t.drug = serial;
+    t
+}
+
+// A record that leaves nothing but its number.
+fn after_other(c: Sofar, last: u16) -> Sofar
+    ensures { λ r. ⌜ r ≡ withLast c last ⌝ }
+{
+    let mut t = c;
+    t.last = last;
+    t
+}
+
+// Before the first record.
+pub fn start() -> Sofar
+    ensures { λ r. ⌜ r ≡ startOf ⌝ }
+{
+    Sofar {
+        last: 0,
+        month: 0,
+        rp: RpNumber(0),
+        drug: DrugSerial(0),
+        supplement: SupplementSerial(0),
+        schedule: schedule::none(),
+    }
+}
+
+// What the records up to this one leave.
+pub fn after(c: Sofar, r: Record) -> Sofar
+    ensures { λ t. ⌜ t ≡ afterOf c r ⌝ }
+{
+    match r {
+        Record::Issue(x) => after_issue(c, x),
+        Record::Rp(x) => after_rp(c, x),
+        Record::Usage(_) => after_other(c, 111),
+        Record::Supplement(x) => after_supplement(c, x),
+        Record::Drug(x) => after_drug(c, x),
+        Record::Kept(x) => after_other(c, x.number),
+    }
+}

@@ -1,0 +1,5 @@
+pub mod Walk
+pub mod Nine
+pub mod Bridge
+pub mod Same
+pub mod Each

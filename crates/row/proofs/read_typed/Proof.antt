@@ -1,0 +1,221 @@
+-- The loop leaves the row as it was: that of the fields from there on, as many as are left of the count.
+-- Assumes nothing.
+use Prim.Native.Nat.{ℕ, _+_, _-_, _≤_, _<_}
+use mathlib.Core.Path.{_≡_, sym, ap, _∙_}
+use mathlib.Core.Bool.{Bool, cond}
+use mathlib.Core.List.{List, [], _∷_}
+use native.Mathlib.Nat.{zero-add}
+use native.Mathlib.Omega.{arith}
+use borrow.Author.Needs.{needs}
+use borrow.Author.Tests.{eq-eqb, ne-eqb, lt-ltb, le-ltb}
+use lib.Dec.{ltb}
+use lib.ListN.{length, getD, set, take, drop}
+use lib.Seq.{slice}
+use Rattle.cells.proofs.Split.{split}
+use Rattle.line.specs.Fields.{fieldEnd}
+use Rattle.supplement.specs.declared.Supplement.{Supplement}
+use Rattle.schedule.specs.Code.Kept.{mayJoin}
+use Rattle.field.specs.Field.{readField}
+use Rattle.field.specs.declared.Rule.{Rule}
+use Rattle.field.specs.declared.Sofar.{Sofar}
+use Rattle.field.specs.declared.Field.{Field}
+use Rattle.line.proofs.Laws.{part}
+use Rattle.row.specs.Row.{fieldsAt, blanks, refusedAt, lineEnds}
+use Rattle.row.specs.Code.Walk.{noRule, rowFrom}
+use Rattle.row.specs.declared.Value.{Value}
+use Rattle.row.proofs.Walk.{after-start, size, more, more-fit, last, within, some}
+use Rattle.row.proofs.read_typed.Statement.{statement}
+use Rattle.row.proofs.read_typed.Tie as tie
+
+-- The fields that are left, with i of them before: those at an offset, and none after the last.
+unfoldable left : ℕ → ℕ → List ℕ → ℕ → List (List ℕ)
+left i count s from = cond (ltb i count) (fieldsAt s from) []
+
+left-some : (i count : ℕ) (s : List ℕ) (from : ℕ) → i < count → left i count s from ≡ fieldsAt s from
+unfolding left
+left-some i count s from h = rw (lt-ltb i count h)
+
+left-none : (i count : ℕ) (s : List ℕ) (from : ℕ) → count ≤ i → left i count s from ≡ []
+unfolding left
+left-none i count s from h = rw (le-ltb i count h)
+
+whole : (s : List ℕ) (at : ℕ) → at ≤ length s → (count : ℕ) → length (fieldsAt s at) ≡ count → left 0 count s at ≡ fieldsAt s at
+whole s at h count k = left-some 0 count s at (omega (arith, some s at h))
+
+module _ (s : List ℕ) (at : ℕ) (h : at ≤ length s) (e : ℕ) (q : e ≡ fieldEnd s at) (i count : ℕ) (b : i < count)
+    (n : i + length (left i count s at) ≡ count) where
+  -- the field that ends next, and those after it
+  parts : (left i count s at ≡ slice at e s ∷ left (i + 1) count s (e + 1)) × (i + 1 < count → e + 1 ≤ length s)
+  parts =
+      let k : left i count s at ≡ fieldsAt s at = left-some i count s at b in
+      split (lineEnds s e)
+      (λ l.
+      let w : left i count s at ≡ slice at e s ∷ [] = k ∙ last s at h e q l in
+      let z : length (left i count s at) ≡ 1 = ap length w in
+      (w ∙ rw (left-none (i + 1) count s (e + 1) (omega arith)), λ m. absurd (omega arith)))
+      (λ l.
+      let w : left i count s at ≡ slice at e s ∷ fieldsAt s (e + 1) = k ∙ more s at h e q l in
+      let f : e + 1 ≤ length s = more-fit s at h e q l in
+      let z : length (left i count s at) ≡ length (slice at e s ∷ fieldsAt s (e + 1)) = ap length w in
+      (w ∙ rw (left-some (i + 1) count s (e + 1) (omega (arith, some s (e + 1) f))), λ m. f))
+
+  rest : i + 1 + length (left (i + 1) count s (e + 1)) ≡ count
+  rest = let z = ap length (parts .0) in omega (arith, z)
+
+  module _ (joins : Supplement → Bool) (c : Sofar) (rs : List Rule) (vs : List Value) (t : Field)
+      (g : t ≡ readField joins c (getD rs i noRule) (take (e - at) (drop at s))) where
+    read : t ≡ readField joins c (getD rs i noRule) (slice at e s)
+    read = g ∙ rw (part s at e (after-start s at h e q))
+
+    -- it is refused,
+    wrong-field : (t .number ≡ 0 → ⊥) → rowFrom joins c i at rs (left i count s at) vs ≡ refusedAt (i + 1) t
+    unfolding rowFrom
+    wrong-field z = rw (parts .0, ← read, ne-eqb (t .number) 0 z)
+
+    -- or read.
+    read-field : t .number ≡ 0 →
+        rowFrom joins c i at rs (left i count s at) vs
+        ≡ rowFrom joins c (i + 1) (e + 1) rs (left (i + 1) count s (e + 1)) (set vs i record { n = t .n; amount = t .amount; from = at; to = e })
+    unfolding rowFrom
+    read-field z = rw (parts .0, ← read, eq-eqb (t .number) 0 z, size s at h e q)
+
+abbrev Inv-loop : tie.InvT-loop
+Inv-loop c s at rules count values₀ from₀ i₀ values from i =
+    (i ≤ count)
+    × (i < count → from ≤ length s)
+    × (i + length (left i count s from) ≡ count)
+    × (rowFrom (mayJoin (c .month) (c .schedule)) c i from rules (left i count s from) values
+    ≡ rowFrom (mayJoin (c .month) (c .schedule)) c 0 at rules (fieldsAt s at) blanks)
+
+abbrev μ-loop : tie.MeasureT-loop
+μ-loop c s at rules count values₀ from₀ i₀ values from i = count - i
+
+blank-requires : tie.Need-blank-requires Inv-loop μ-loop
+blank-requires c κs = search needs
+
+loop-holds : tie.Need-loop-holds Inv-loop μ-loop
+loop-holds c =
+    let a = c .before .before .before .args in
+    let p = c .before .before .before .pre in
+    let w : left 0 (a .t .count) (a .s .now) (a .at) ≡ fieldsAt (a .s .now) (a .at) = whole (a .s .now) (a .at) (p .0) (a .t .count) (p .2) in
+    (omega arith, λ k. p .0, rw (w, zero-add) (p .2), rw (w, c .blank .ensures))
+
+field-end-requires : tie.Need-field-end-requires Inv-loop μ-loop
+field-end-requires c κs = search needs
+
+mul-read : tie.Need-mul-read Inv-loop μ-loop
+mul-read c = search needs
+
+array-copy-out-read : tie.Need-array-copy-out-read Inv-loop μ-loop
+array-copy-out-read c = search needs
+
+sub-read : tie.Need-sub-read Inv-loop μ-loop
+sub-read c =
+    let f = c .before in
+    let a = f .before .before .before .before .before .before .args in
+    let l = f .before .before .loop in
+    let b = f .before .loop-test .taken in
+    omega (arith, within (a .s .now) (l .from) (l .inv .1 b) (f .field-end .result) (f .field-end .ensures))
+
+part-read-start : tie.Need-part-read-start Inv-loop μ-loop
+part-read-start c =
+    let f = c .before in
+    let a = f .before .before .before .before .before .before .args in
+    let l = f .before .before .loop in
+    let b = f .before .loop-test .taken in
+    omega (arith, within (a .s .now) (l .from) (l .inv .1 b) (f .field-end .result) (f .field-end .ensures))
+
+part-read-end : tie.Need-part-read-end Inv-loop μ-loop
+part-read-end c =
+    let f = c .before in
+    let a = f .before .before .before .before .before .before .args in
+    let l = f .before .before .loop in
+    let b = f .before .loop-test .taken in
+    omega (arith, within (a .s .now) (l .from) (l .inv .1 b) (f .field-end .result) (f .field-end .ensures))
+
+read-requires : tie.Need-read-requires Inv-loop μ-loop
+read-requires c κs = search needs
+
+add-refused : tie.Need-add-refused Inv-loop μ-loop
+add-refused c = search needs
+
+refused-requires : tie.Need-refused-requires Inv-loop μ-loop
+refused-requires c κs = search needs
+
+returns : tie.Need-returns Inv-loop μ-loop
+returns c =
+    let f = c .before .before .before .before .before .before in
+    let a = f .before .before .before .before .before .before .args in
+    let l = f .before .before .loop in
+    let b = f .before .loop-test .taken in
+    let r = c .before .before .before .read in
+    c .refused .ensures
+    ∙ sym (wrong-field (a .s .now) (l .from) (l .inv .1 b) (f .field-end .result) (f .field-end .ensures) (l .i) (a .t .count) b (l .inv .2) (mayJoin (a .c .month) (a .c .schedule)) (a .c) (a .t .each) (l .values) (r .result) (r .ensures) (c .before .if1 .taken))
+    ∙ l .inv .3
+
+mul-values : tie.Need-mul-values Inv-loop μ-loop
+mul-values c = search needs
+
+array-set-from-values : tie.Need-array-set-from-values Inv-loop μ-loop
+array-set-from-values c = search needs
+
+add-from : tie.Need-add-from Inv-loop μ-loop
+add-from c =
+    let f = c .before .before .before .before .before in
+    let a = f .before .before .before .before .before .before .args in
+    let l = f .before .before .loop in
+    let b = f .before .loop-test .taken in
+    omega (arith, within (a .s .now) (l .from) (l .inv .1 b) (f .field-end .result) (f .field-end .ensures))
+
+add-i : tie.Need-add-i Inv-loop μ-loop
+add-i c = search needs
+
+loop-less : tie.Need-loop-less Inv-loop μ-loop
+loop-less c = search needs
+
+loop-again : tie.Need-loop-again Inv-loop μ-loop
+loop-again c =
+    let f = c .before .before .before .before .before in
+    let a = f .before .before .before .before .before .before .args in
+    let l = f .before .before .loop in
+    let b = f .before .loop-test .taken in
+    let r = c .before .before .read in (
+      omega arith,
+      parts (a .s .now) (l .from) (l .inv .1 b) (f .field-end .result) (f .field-end .ensures) (l .i) (a .t .count) b (l .inv .2) .1,
+      rest (a .s .now) (l .from) (l .inv .1 b) (f .field-end .result) (f .field-end .ensures) (l .i) (a .t .count) b (l .inv .2),
+      sym (read-field (a .s .now) (l .from) (l .inv .1 b) (f .field-end .result) (f .field-end .ensures) (l .i) (a .t .count) b (l .inv .2) (mayJoin (a .c .month) (a .c .schedule)) (a .c) (a .t .each) (l .values) (r .result) (r .ensures) (c .if1 .left)) ∙ l .inv .3,
+    )
+
+returns-2 : tie.Need-returns-2 Inv-loop μ-loop
+unfolding rowFrom
+returns-2 c =
+    let a = c .before .before .before .before .before .args in
+    let l = c .before .loop in
+    let w : left (l .i) (a .t .count) (a .s .now) (l .from) ≡ [] = left-none (l .i) (a .t .count) (a .s .now) (l .from) (c .loop-test .left) in
+    rw w at (l .inv .3)
+
+pub read-typed-spec : {M : Type 1} → statement M
+read-typed-spec =
+    tie.close
+    (tie.spec
+    Inv-loop
+    μ-loop
+    blank-requires
+    loop-holds
+    field-end-requires
+    mul-read
+    array-copy-out-read
+    sub-read
+    part-read-start
+    part-read-end
+    read-requires
+    add-refused
+    refused-requires
+    returns
+    mul-values
+    array-set-from-values
+    add-from
+    add-i
+    loop-less
+    loop-again
+    returns-2)

@@ -1,0 +1,41 @@
+-- The rules of 181, in nine cells.
+use borrow.Author.Needs.{needs}
+use Rattle.row.proofs.table_181.Statement.{statement}
+use Rattle.row.proofs.table_181.Tie as tie
+
+rule-requires : tie.Need-rule-requires
+rule-requires c κs = search needs
+
+rule-requires-2 : tie.Need-rule-requires-2
+rule-requires-2 c κs = search needs
+
+rule-requires-3 : tie.Need-rule-requires-3
+rule-requires-3 c κs = search needs
+
+rule-requires-4 : tie.Need-rule-requires-4
+rule-requires-4 c κs = search needs
+
+rule-requires-5 : tie.Need-rule-requires-5
+rule-requires-5 c κs = search needs
+
+rule-requires-6 : tie.Need-rule-requires-6
+rule-requires-6 c κs = search needs
+
+rule-requires-7 : tie.Need-rule-requires-7
+rule-requires-7 c κs = search needs
+
+returns : tie.Need-returns
+returns c = cc
+
+pub table-181-spec : {M : Type 1} → statement M
+table-181-spec =
+    tie.close
+    (tie.spec
+    rule-requires
+    rule-requires-2
+    rule-requires-3
+    rule-requires-4
+    rule-requires-5
+    rule-requires-6
+    rule-requires-7
+    returns)

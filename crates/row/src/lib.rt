@@ -1,0 +1,429 @@
+// The fields of a record, by document 01's table: how many they are, what each must be, and what each is read as.
+use field::Field;
+use field::Rule;
+use field::Sofar;
+ghost use mathlib.Core.Path.{_≡_};
+ghost use mathlib.Core.Bool.{true};
+ghost use Prim.Native.Nat.{_≤_};
+ghost use lib.ListN.{length};
+ghost use Rattle.cells.specs.Text.{bytes};
+ghost use Rattle.cells.specs.Code.Same.{eqs};
+ghost use Rattle.field.specs.Field.{rule as ruleOf};
+ghost use Rattle.schedule.specs.Code.Kept.{mayJoin};
+ghost use Rattle.row.specs.Table.{mark as markOf, rules51, rules101, rules111, rules181, rules201, rulesOf, typed as typedOf, nth};
+ghost use Rattle.row.specs.Row.{fieldsAt, lineEnds, blanks, refusedAt, miscounted as miscountedRow, readRow};
+ghost use Rattle.row.specs.Code.Walk.{needWith, drugNeed, nameNeedOf, tableOf, rowFrom, keptFrom};
+
+// What was read of a field, and its place in the file.
+pub struct Value {
+    pub n: u16,
+    pub amount: u64,
+    pub from: usize,
+    pub to: usize,
+}
+
+// The number 0, the values of a typed record's fields, and the place after the CR that ends them; or the refusal's number, the field, counted
+// from 1 (0 for 25), and for 29 the code's own number and place.
+pub struct Row {
+    pub number: u8,
+    pub field: usize,
+    pub code: u8,
+    pub place: usize,
+    pub values: [Value; 9],
+    pub after: usize,
+}
+
+// The rules of a record's fields, as many as it has.
+struct Rules {
+    count: usize,
+    each: [Rule; 9],
+}
+
+fn rule(need: u8, form: u8, lo: u16, hi: u16) -> Rule
+    ensures { λ r. ⌜ r ≡ ruleOf need form lo hi ⌝ }
+{
+    Rule {
+        need: need,
+        form: form,
+        lo: lo,
+        hi: hi,
+    }
+}
+
+// ---- the table
+
+fn table_51() -> Rules
+    ensures { λ t. ⌜ t ≡ tableOf rules51 ⌝ }
+{
+    let unused = rule(0, 0, 0, 0);
+    Rules {
+        count: 1,
+        each: [
+            rule(field::REQUIRED, field::DATE, 0, 0),
+            unused,
+            unused,
+            unused,
+            unused,
+            unused,
+            unused,
+            unused,
+            unused,
+        ],
+    }
+}
+
+fn table_101() -> Rules
+    ensures { λ t. ⌜ t ≡ tableOf rules101 ⌝ }
+{
+    let unused = rule(0, 0, 0, 0);
+    Rules {
+        count: 4,
+        each: [
+            rule(field::REQUIRED, field::NEW_RP, 1, 999),
+            rule(field::REQUIRED, field::NUMBER, 1, 99),
+            rule(field::FREE, field::TEXT, 0, 80),
+            rule(field::REQUIRED, field::NUMBER, 1, 999),
+            unused,
+            unused,
+            unused,
+            unused,
+            unused,
+        ],
+    }
+}
+
+fn table_111(code: u8) -> Rules
+    ensures { λ t. ⌜ t ≡ tableOf (rules111 code) ⌝ }
+{
+    let unused = rule(0, 0, 0, 0);
+    Rules {
+        count: 5,
+        each: [
+            rule(field::REQUIRED, field::OWN_RP, 1, 999),
+            rule(field::REQUIRED, field::NUMBER, 1, 2),
+            rule(code, field::USAGE_CODE, 0, 0),
+            rule(field::REQUIRED, field::TEXT, 0, 80),
+            rule(field::FREE, field::NUMBER, 1, 99),
+            unused,
+            unused,
+            unused,
+            unused,
+        ],
+    }
+}
+
+fn table_181(code: u8, site: u8) -> Rules
+    ensures { λ t. ⌜ t ≡ tableOf (rules181 code site) ⌝ }
+{
+    let unused = rule(0, 0, 0, 0);
+    Rules {
+        count: 6,
+        each: [
+            rule(field::REQUIRED, field::OWN_RP, 1, 999),
+            rule(field::REQUIRED, field::SUPPLEMENT_SERIAL, 1, 99),
+            rule(field::FREE, field::NUMBER, 1, 99),
+            rule(field::REQUIRED, field::TEXT, 0, 100),
+            rule(code, field::SUPPLEMENT_CODE, 0, 0),
+            rule(site, field::SITE, 0, 0),
+            unused,
+            unused,
+            unused,
+        ],
+    }
+}
+
+fn table_201(code: u8, name: u8) -> Rules
+    ensures { λ t. ⌜ t ≡ tableOf (rules201 code name) ⌝ }
+{
+    Rules {
+        count: 9,
+        each: [
+            rule(field::REQUIRED, field::OWN_RP, 1, 999),
+            rule(field::REQUIRED, field::DRUG_SERIAL, 1, 99),
+            rule(field::FREE, field::NUMBER, 1, 3),
+            rule(field::REQUIRED, field::CODE_KIND, 1, 7),
+            rule(code, field::DRUG_CODE, 0, 13),
+            rule(name, field::TEXT, 0, 80),
+            rule(field::REQUIRED, field::AMOUNT, 0, 0),
+            rule(field::REQUIRED, field::NUMBER, 1, 2),
+            rule(field::REQUIRED, field::TEXT, 0, 12),
+        ],
+    }
+}
+
+// Required with the kind of this character, else forbidden.
+fn need_with(named: u8, kind: u8) -> u8
+    ensures { λ r. ⌜ r ≡ needWith named kind ⌝ }
+{
+    if kind == named {
+        return field::REQUIRED;
+    }
+    field::FORBIDDEN
+}
+
+// Empty for code kind 1, free for 7, else required.
+fn drug_code_need(kind: u8) -> u8
+    ensures { λ r. ⌜ r ≡ drugNeed kind ⌝ }
+{
+    if kind == b'1' {
+        return field::FORBIDDEN;
+    }
+    if kind == b'7' {
+        return field::FREE;
+    }
+    field::REQUIRED
+}
+
+// The name may be empty only for code kind 2, and not for the code that names no listed drug.
+fn name_need(kind: u8, unlisted: bool) -> u8
+    ensures { λ r. ⌜ r ≡ nameNeedOf kind unlisted ⌝ }
+{
+    if unlisted {
+        return field::REQUIRED;
+    }
+    if kind == b'2' {
+        return field::FREE;
+    }
+    field::REQUIRED
+}
+
+// The one character of a field, 0 where it has not one.
+fn mark(f: &[u8]) -> u8
+    ensures { λ r. ⌜ r ≡ markOf (now (f .entry)) ⌝ }
+{
+    if f.len() == 1 {
+        return f[0];
+    }
+    0
+}
+
+// The code 777770000, which names no listed drug.
+fn is_unlisted(f: &[u8]) -> bool
+    ensures { λ r. ⌜ r ≡ eqs (now (f .entry)) (bytes "777770000") ⌝ }
+{
+    if f.len() != 9 {
+        return false;
+    }
+    (f[0] == b'7')
+        & ((f[1] == b'7')
+            & ((f[2] == b'7')
+                & ((f[3] == b'7')
+                    & ((f[4] == b'7')
+                        & ((f[5] == b'0')
+                            & ((f[6] == b'0') & ((f[7] == b'0') & ((f[8] == b'0') & true))))))))
+}
+
+// ---- the fields of a line
+
+// Does the last field of a line end at a place: at a CR, or at the end of the file? A comma stands after any other.
+pub fn line_ends(s: &[u8], at: usize) -> bool
+    ensures { λ r. ⌜ r ≡ lineEnds (now (s .entry)) at ⌝ }
+{
+    if at < s.len() {
+        return s[at] != b',';
+    }
+    true
+}
+
+// The nth field, counted from 1, of those at a place; nothing where there are fewer.
+pub fn nth_field(s: &[u8], at: usize, n: usize) -> &[u8]
+    ensures { λ r. ⌜ now r ≡ nth n (fieldsAt (now (s .entry)) at) ⌝ }
+{
+    if s.len() < at {
+        return &s[0..0];
+    }
+    let mut from = at;
+    let mut k: usize = 1;
+    while k < n {
+        let end = line::field_end(s, from);
+        if line_ends(s, end) {
+            return &s[0..0];
+        }
+        from = end + 1;
+        k += 1;
+    }
+    let to = line::field_end(s, from);
+    &s[from..to]
+}
+
+// How many fields stand at a place.
+fn field_count(s: &[u8], at: usize) -> usize
+    requires { ⌜ at ≤ length (now s) ⌝ }
+    ensures { λ r. ⌜ r ≡ length (fieldsAt (now (s .entry)) at) ⌝ }
+{
+    let mut from = at;
+    let mut k: usize = 1;
+    loop {
+        let end = line::field_end(s, from);
+        if line_ends(s, end) {
+            return k;
+        }
+        from = end + 1;
+        k += 1;
+    }
+}
+
+fn table_of_supplement(kind: u8) -> Rules
+    ensures { λ t. ⌜ t ≡ tableOf (rules181 (needWith 56 kind) (needWith 57 kind)) ⌝ }
+{
+    table_181(need_with(b'8', kind), need_with(b'9', kind))
+}
+
+fn table_of_drug(kind: u8, unlisted: bool) -> Rules
+    ensures { λ t. ⌜ t ≡ tableOf (rules201 (drugNeed kind) (nameNeedOf kind unlisted)) ⌝ }
+{
+    table_201(drug_code_need(kind), name_need(kind, unlisted))
+}
+
+// The rules of a typed record, which for some fields go by others.
+fn table(n: u16, s: &[u8], at: usize) -> Rules
+    ensures { λ t. ⌜ t ≡ tableOf (rulesOf n (fieldsAt (now (s .entry)) at)) ⌝ }
+{
+    if n == 51 {
+        return table_51();
+    }
+    if n == 101 {
+        return table_101();
+    }
+    if n == 111 {
+        return table_111(need_with(b'2', mark(nth_field(s, at, 2))));
+    }
+    if n == 181 {
+        return table_of_supplement(mark(nth_field(s, at, 3)));
+    }
+    table_of_drug(mark(nth_field(s, at, 4)), is_unlisted(nth_field(s, at, 5)))
+}
+
+// Is a record of this number one of the table's?
+fn typed(n: u16) -> bool
+    ensures { λ r. ⌜ r ≡ typedOf n ⌝ }
+{
+    (n == 51) | ((n == 101) | ((n == 111) | ((n == 181) | (n == 201))))
+}
+
+fn blank() -> [Value; 9]
+    ensures { λ r. ⌜ r ≡ blanks ⌝ }
+{
+    [Value {
+        n: 0,
+        amount: 0,
+        from: 0,
+        to: 0,
+    }; 9]
+}
+
+// A refusal at a field.
+fn refused(field: usize, f: Field) -> Row
+    ensures { λ r. ⌜ r ≡ refusedAt field f ⌝ }
+{
+    Row {
+        number: f.number,
+        field: field,
+        code: f.code,
+        place: f.place,
+        values: blank(),
+        after: 0,
+    }
+}
+
+// 25.
+fn miscounted() -> Row
+    ensures { λ r. ⌜ r ≡ miscountedRow ⌝ }
+{
+    Row {
+        number: 25,
+        field: 0,
+        code: 0,
+        place: 0,
+        values: blank(),
+        after: 0,
+    }
+}
+
+// Field by field, by the rules of a typed record.
+fn read_typed(c: Sofar, s: &[u8], at: usize, t: Rules) -> Row
+    requires { ⌜ (at ≤ length (now s)) × (t .count ≤ 9) × (length (fieldsAt (now s) at) ≡ t .count) ⌝ }
+    ensures { λ r. ⌜ r ≡ rowFrom (mayJoin (c .month) (c .schedule)) c 0 at (t .each) (fieldsAt (now (s .entry)) at) blanks ⌝ }
+{
+    let rules = t.each;
+    let count = t.count;
+    let mut values = blank();
+    let mut from = at;
+    let mut i: usize = 0;
+    while i < count {
+        let to = line::field_end(s, from);
+        let f = field::read(c, rules[i], &s[from..to]);
+        if f.number != 0 {
+            return refused(i + 1, f);
+        }
+        values[i] = Value {
+            n: f.n,
+            amount: f.amount,
+            from: from,
+            to: to,
+        };
+        from = to + 1;
+        i += 1;
+    }
+    Row {
+        number: 0,
+        field: 0,
+        code: 0,
+        place: 0,
+        values: values,
+        after: from,
+    }
+}
+
+// Field by field, texts of at most 200 bytes.
+fn read_kept(c: Sofar, s: &[u8], at: usize) -> Row
+    requires { ⌜ at ≤ length (now s) ⌝ }
+    ensures { λ r. ⌜ r ≡ keptFrom (mayJoin (c .month) (c .schedule)) c 1 at (fieldsAt (now (s .entry)) at) ⌝ }
+{
+    let mut from = at;
+    let mut i: usize = 1;
+    loop {
+        let to = line::field_end(s, from);
+        let f = field::read(c, rule(field::FREE, field::TEXT, 0, 200), &s[from..to]);
+        if f.number != 0 {
+            return refused(i, f);
+        }
+        if line_ends(s, to) {
+            return Row {
+                number: 0,
+                field: 0,
+                code: 0,
+                place: 0,
+                values: blank(),
+                after: to + 1,
+            };
+        }
+        from = to + 1;
+        i += 1;
+    }
+}
+
+// A typed record that has as many fields as its table.
+fn read_counted(c: Sofar, s: &[u8], n: u16, at: usize) -> Row
+    requires { ⌜ (at ≤ length (now s)) × (typedOf n ≡ true) ⌝ }
+    ensures { λ r. ⌜ r ≡ readRow (mayJoin (c .month) (c .schedule)) c n at (fieldsAt (now (s .entry)) at) ⌝ }
+{
+    let t = table(n, s, at);
+    if field_count(s, at) == t.count {
+        return read_typed(c, s, at, t);
+    }
+    miscounted()
+}
+
+// Reads the fields at a place of the file, of a record of this number.
+pub fn read(c: Sofar, s: &[u8], n: u16, at: usize) -> Row
+    ensures { λ r. ⌜ r ≡ readRow (mayJoin (c .month) (c .schedule)) c n at (fieldsAt (now (s .entry)) at) ⌝ }
+{
+    if s.len() < at {
+        return miscounted();
+    }
+    if typed(n) {
+        return read_counted(c, s, n, at);
+    }
+    read_kept(c, s, at)
+}
