@@ -4,11 +4,6 @@ use borrow.Author.Needs.{needs}
 use lib.ListN.{length}
 use Rattle.codecheck.proofs.answer_all.Statement.{statement}
 use Rattle.codecheck.proofs.answer_all.Tie as tie
-use Rattle.codecheck.proofs.answer_all.Reads as reads
-use Rattle.codecheck.proofs.answer_all.Lts as lts
-use Rattle.codecheck.proofs.answer.Reads as answer-reads
-use Rattle.codecheck.proofs.ask.line_end.Reads as line-end-reads
-use Rattle.codecheck.proofs.say.words.Reads as words-reads
 
 abbrev Inv-loop : tie.InvT-loop
 Inv-loop input at₀ t4 at = at ≤ length input + 1
@@ -16,51 +11,39 @@ Inv-loop input at₀ t4 at = at ≤ length input + 1
 abbrev μ-loop : tie.MeasureT-loop
 μ-loop input at₀ t4 at = length input + 1 - at
 
--- src/main.rt:30:5
 loop-holds : tie.Need-loop-holds Inv-loop μ-loop
 loop-holds c = search needs
 
--- src/main.rt:31:13
 line-end-requires : tie.Need-line-end-requires Inv-loop μ-loop
 line-end-requires c κs = search needs
 
--- src/main.rt:32:16
 sub-answer : tie.Need-sub-answer Inv-loop μ-loop
 sub-answer c = search needs
 
--- src/main.rt:32:16
 part-answer-start : tie.Need-part-answer-start Inv-loop μ-loop
 part-answer-start c = search needs
 
--- src/main.rt:32:16
 part-answer-end : tie.Need-part-answer-end Inv-loop μ-loop
 part-answer-end c = search needs
 
--- src/main.rt:32:9
 answer-requires : tie.Need-answer-requires Inv-loop μ-loop
 answer-requires c κs = search needs
 
--- src/main.rt:33:20
 slice-aggregate-words : tie.Need-slice-aggregate-words Inv-loop μ-loop
 slice-aggregate-words c = search needs
 
--- src/main.rt:33:9
 words-requires : tie.Need-words-requires Inv-loop μ-loop
 words-requires c κs = search needs
 
--- src/main.rt:34:14
 add-at : tie.Need-add-at Inv-loop μ-loop
 add-at c = search needs
 
--- src/main.rt:30:5
 loop-less : tie.Need-loop-less Inv-loop μ-loop
 loop-less c = search needs
 
--- src/main.rt:30:5
 loop-again : tie.Need-loop-again Inv-loop μ-loop
 loop-again c = search needs
 
--- src/main.rt:28:1
 returns : tie.Need-returns Inv-loop μ-loop
 returns c = search needs
 

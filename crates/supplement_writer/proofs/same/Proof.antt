@@ -9,19 +9,15 @@ use Rattle.supplement_writer.proofs.same_days.Reads as same-days-reads
 use Rattle.supplement_writer.proofs.same_head.Reads as same-head-reads
 use Rattle.supplement_writer.proofs.same_week.Reads as same-week-reads
 
--- src/lib.rt:198:9
 same-head-requires : tie.Need-same-head-requires
 same-head-requires c κs = search needs
 
--- src/lib.rt:199:9
 same-week-requires : tie.Need-same-week-requires
 same-week-requires c κs = search needs
 
--- src/lib.rt:200:9
 same-days-requires : tie.Need-same-days-requires
 same-days-requires c κs = search needs
 
--- src/lib.rt:195:1
 returns : tie.Need-returns
 returns c = cc
 

@@ -14,27 +14,21 @@ Inv-loop mask mark₀ d₀ left₀ mark d left = d ≤ 33
 abbrev μ-loop : tie.MeasureT-loop
 μ-loop mask mark₀ d₀ left₀ mark d left = 33 - d
 
--- src/say.rt:219:5
 loop-holds : tie.Need-loop-holds Inv-loop μ-loop
 loop-holds c = search needs
 
--- src/say.rt:220:9
 day-requires : tie.Need-day-requires Inv-loop μ-loop
 day-requires c κs = search needs
 
--- src/say.rt:222:9
 add-d : tie.Need-add-d Inv-loop μ-loop
 add-d c = search needs
 
--- src/say.rt:219:5
 loop-less : tie.Need-loop-less Inv-loop μ-loop
 loop-less c = search needs
 
--- src/say.rt:219:5
 loop-again : tie.Need-loop-again Inv-loop μ-loop
 loop-again c = search needs
 
--- src/say.rt:215:1
 returns : tie.Need-returns Inv-loop μ-loop
 returns c = search needs
 

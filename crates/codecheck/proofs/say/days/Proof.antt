@@ -15,43 +15,33 @@ Inv-loop set mark₀ m₀ mark m = m ≤ 13
 abbrev μ-loop : tie.MeasureT-loop
 μ-loop set mark₀ m₀ mark m = 13 - m
 
--- src/say.rt:194:11
 slice-aggregate-words : tie.Need-slice-aggregate-words Inv-loop μ-loop
 slice-aggregate-words c = search needs
 
--- src/say.rt:194:5
 words-requires : tie.Need-words-requires Inv-loop μ-loop
 words-requires c κs = search needs
 
--- src/say.rt:197:5
 loop-holds : tie.Need-loop-holds Inv-loop μ-loop
 loop-holds c = search needs
 
--- src/say.rt:198:20
 mul-mask : tie.Need-mul-mask Inv-loop μ-loop
 mul-mask c = search needs
 
--- src/say.rt:198:20
 element-copy-out-mask : tie.Need-element-copy-out-mask Inv-loop μ-loop
 element-copy-out-mask c = search needs
 
--- src/say.rt:199:9
 cell-requires : tie.Need-cell-requires Inv-loop μ-loop
 cell-requires c κs = search needs
 
--- src/say.rt:200:9
 add-m : tie.Need-add-m Inv-loop μ-loop
 add-m c = search needs
 
--- src/say.rt:197:5
 loop-less : tie.Need-loop-less Inv-loop μ-loop
 loop-less c = search needs
 
--- src/say.rt:197:5
 loop-again : tie.Need-loop-again Inv-loop μ-loop
 loop-again c = search needs
 
--- src/say.rt:193:1
 returns : tie.Need-returns Inv-loop μ-loop
 returns c = search needs
 

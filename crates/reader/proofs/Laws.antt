@@ -1,0 +1,154 @@
+-- The reader's theorems, over the rules alone: what the calls tell from opening on, and what a program that reads to the end needs.
+-- Assumes nothing.
+use Prim.Native.Nat.{ℕ, zero, suc, _+_, _<_}
+use mathlib.Core.Path.{_≡_, refl, _∙_, sym, ap}
+use mathlib.Core.List.{List}
+use native.Mathlib.Nat.{add-zero}
+use native.Mathlib.Omega.{arith}
+use borrow.Author.Tests.{eqb-false}
+use lib.Dec.{eqb}
+use lib.ListN.{length}
+use Rattle.cells.proofs.Split.{split}
+use Rattle.record.specs.declared.Record.{Record}
+use Rattle.record.specs.declared.Refusal.{Refusal}
+use Rattle.reader.specs.Open.{fileFault}
+use Rattle.reader.specs.File.{File, Ending, whole, stopped, readFile, counted, checkFile}
+use Rattle.reader.specs.Reader.{openFile, nextRecord, call, endingOf, told}
+use Rattle.reader.specs.declared.State.{State}
+use Rattle.reader.specs.declared.Handed.{Handed}
+use Rattle.reader.specs.declared.Handed.the-variants.{Record as Hands, Refused as Refuses, End}
+use Rattle.reader.specs.declared.Step.{Step}
+use Rattle.reader.specs.declared.Checked.the-variants.{Records, Refused as Not}
+use Rattle.reader.proofs.Along.{by-call, rests, Tells, by-rest, from-opening}
+
+abbrev nextOf : Step → Handed
+nextOf w = w .next
+
+abbrev stateOf : Step → State
+stateOf w = w .state
+
+-- ---- one call
+module _ (s : List ℕ) (t : State) where
+  -- a record is handed out only inside the file, by a reader that was not refused
+  handed : {P : Type 0} (r : Record) → nextRecord s t .next ≡ Hands r →
+      ((n : ℕ) → t .number ≡ 0 → t .at < length s → t .at < n → nextRecord s t .state .at ≡ n → P) → P
+  handed r h k =
+      by-call s t (λ f e. absurd (let i = ap nextOf e in let z : _≡_ {A = ℕ} 0 1 = cc in omega arith))
+      (λ e. absurd (let i = ap nextOf e in let z : _≡_ {A = ℕ} 0 1 = cc in omega arith))
+      (λ q n z l m e. k n z l m (ap (λ (w : Step). w .state .at) e))
+
+  -- and any other answer leaves the state as it was
+  stayed : ((r : Record) → nextRecord s t .next ≡ Hands r → ⊥) → nextRecord s t .state ≡ t
+  stayed h =
+      by-call s t (λ f e. ap stateOf e) (λ e. ap stateOf e) (λ r n z l m e. absurd (h r (ap nextOf e)))
+
+  -- Where a record is handed out, the reader was not refused,
+  pub was-open : (r : Record) → nextRecord s t .next ≡ Hands r → t .number ≡ 0
+  was-open r h = handed r h (λ n z l m e. z)
+
+  -- it was inside the file,
+  pub was-inside : (r : Record) → nextRecord s t .next ≡ Hands r → t .at < length s
+  was-inside r h = handed r h (λ n z l m e. l)
+
+  -- and it goes on behind where it was: so no program hands out records for ever.
+  pub moves : (r : Record) → nextRecord s t .next ≡ Hands r → t .at < nextRecord s t .state .at
+  moves r h = handed r h (λ n z l m e. rw e m)
+
+  -- A refusal leaves the state as it was,
+  pub again-refused : (f : Refusal) → nextRecord s t .next ≡ Refuses f → nextRecord s t .state ≡ t
+  again-refused f h = stayed (λ r k. let z : _≡_ {A = ℕ} 0 1 = cc in omega arith)
+
+  -- and so does the end.
+  pub again-end : nextRecord s t .next ≡ End → nextRecord s t .state ≡ t
+  again-end h = stayed (λ r k. let z : _≡_ {A = ℕ} 0 1 = cc in omega arith)
+
+  -- "After a refusal it refuses the same again" on every later call,
+  pub ever-refused : (f : Refusal) → nextRecord s t .next ≡ Refuses f → (n : ℕ) → call n s t ≡ Refuses f
+  ever-refused f h n = rests s t n (again-refused f h) ∙ h
+
+  -- "after the end it says the end again."
+  pub ever-ended : nextRecord s t .next ≡ End → (n : ℕ) → call n s t ≡ End
+  ever-ended h n = rests s t n (again-end h) ∙ h
+
+-- ---- all calls
+tells : (s : List ℕ) (n : ℕ) (t : State) (f : File) → Tells s t f → call n s t ≡ told n (f .records) (f .ending)
+unfolding call told
+tells s zero t f k =
+    by-rest s t f (λ e h q. ap nextOf h ∙ rw q) (λ r g h i q. h ∙ rw q) k
+tells s (suc n) t f k =
+    by-rest s t f (λ e h q. rests s t (suc n) (ap stateOf h) ∙ ap nextOf h ∙ rw q)
+    (λ r g h i q. tells s n (nextRecord s t .state) g i ∙ rw q) k
+
+-- From opening on the calls hand out the file's records, one by one, then tell the end or the refusal, and again on every later call.
+pub calls : (s : List ℕ) (n : ℕ) → call n s (openFile s) ≡ told n (readFile s .records) (readFile s .ending)
+calls s n = tells s n (openFile s) (readFile s) (from-opening s)
+
+-- ---- a program that counts the records
+-- After n records, with the version line: what is left of the file, and that it makes out the count.
+pub record Counts (s : List ℕ) (t : State) (n : ℕ) : Type 0 where
+  pub rest : File
+  pub left : Tells s t rest
+  pub all : checkFile s ≡ counted (n + length (rest .records)) (rest .ending)
+  pub below : t .number ≡ 0 → n < t .at
+
+checks : (s : List ℕ) → checkFile s ≡ counted (1 + length (readFile s .records)) (readFile s .ending)
+unfolding checkFile
+checks s = refl
+
+opened-below : (s : List ℕ) → openFile s .number ≡ 0 → 1 < openFile s .at
+unfolding openFile
+opened-below s h =
+    split (eqb (fileFault s .number) 0) (λ e. simp e (omega arith)) (λ e. absurd (eqb-false _ _ e (simp e at h)))
+
+-- A file that is just opened counts its version line,
+pub counts-one : (s : List ℕ) → Counts s (openFile s) 1
+counts-one s = record { rest = readFile s; left = from-opening s; all = checks s; below = opened-below s }
+
+no-record : (e : Ending) (r : Record) → endingOf e ≡ Hands r → ⊥
+no-record whole r h = let z : _≡_ {A = ℕ} 0 1 = cc in omega arith
+no-record (stopped f) r h = let z : _≡_ {A = ℕ} 0 1 = cc in omega arith
+
+module _ (s : List ℕ) (t : State) (n : ℕ) (c : Counts s t n) where
+  -- each record counts one,
+  pub counts-more : (r : Record) → nextRecord s t .next ≡ Hands r → Counts s (nextRecord s t .state) (n + 1)
+  counts-more r h =
+      by-rest s t (c .rest) (λ e k q. absurd (no-record e r (sym (ap nextOf k) ∙ h)))
+      (λ r′ g k i q.
+      let m : n + suc (length (g .records)) ≡ n + 1 + length (g .records) = omega arith in
+      record {
+        rest = g;
+        left = i;
+        all = c .all ∙ ap (λ (f : File). counted (n + length (f .records)) (f .ending)) q ∙ ap (λ (k : ℕ). counted k (g .ending)) m;
+        below = λ z. omega (arith, c .below (was-open s t r h), moves s t r h);
+      })
+      (c .left)
+
+  -- which is less than the file's bytes,
+  pub counts-room : (r : Record) → nextRecord s t .next ≡ Hands r → n + 1 < length s
+  counts-room r h = omega (arith, was-inside s t r h, c .below (was-open s t r h))
+
+  -- an answer that is no record is the file's ending
+  told-ending : {P : Type 0} (a : Handed) → nextRecord s t .next ≡ a → ((r : Record) → a ≡ Hands r → ⊥) →
+      ((e : Ending) → endingOf e ≡ a → checkFile s ≡ counted n e → P) → P
+  told-ending a h none give =
+      by-rest s t (c .rest)
+      (λ e k q. give e (sym (ap nextOf k) ∙ h)
+      (c .all ∙ ap (λ (f : File). counted (n + length (f .records)) (f .ending)) q ∙ ap (λ (m : ℕ). counted m e) (add-zero n)))
+      (λ r g k i q. absurd (none r (sym h ∙ k)))
+      (c .left)
+
+  refusal-of : (e : Ending) (f : Refusal) → endingOf e ≡ Refuses f → counted n e ≡ Not f
+  refusal-of whole f h = absurd (let z : _≡_ {A = ℕ} 0 1 = cc in omega arith)
+  refusal-of (stopped g) f h = let z : g ≡ f = cc in ap Not z
+
+  end-of : (e : Ending) → endingOf e ≡ End → counted n e ≡ Records n
+  end-of whole h = refl
+  end-of (stopped g) h = absurd (let z : _≡_ {A = ℕ} 0 1 = cc in omega arith)
+
+  -- a refusal is what checking tells,
+  pub counts-refused : (f : Refusal) → nextRecord s t .next ≡ Refuses f → checkFile s ≡ Not f
+  counts-refused f h = told-ending (Refuses f) h (λ r k. let z : _≡_ {A = ℕ} 0 1 = cc in omega arith) (λ e k i. i ∙ refusal-of e f k)
+
+  -- and the end makes the count what it tells.
+  pub counts-end : nextRecord s t .next ≡ End → checkFile s ≡ Records n
+  counts-end h = told-ending End h (λ r k. let z : _≡_ {A = ℕ} 0 1 = cc in omega arith) (λ e k i. i ∙ end-of e k)

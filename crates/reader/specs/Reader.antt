@@ -1,0 +1,70 @@
+-- The reader: what opening a file and each call after it answer.
+-- Assumes nothing.
+use Prim.Native.Nat.{ℕ, zero, suc}
+use mathlib.Core.Bool.{Bool, true, cond}
+use mathlib.Core.List.{List, [], _∷_}
+use lib.Dec.{ltb, eqb}
+use lib.ListN.{length, getD}
+use Rattle.order.specs.Code.Next.{closes}
+use Rattle.schedule.specs.Code.Kept.{mayJoin}
+use Rattle.record.specs.Record.{start, after}
+use Rattle.record.specs.Line.{refusal, lineAt}
+use Rattle.record.specs.declared.Record.{Record}
+use Rattle.record.specs.declared.Answer.{Answer}
+use Rattle.record.specs.declared.Answer.the-variants.{Took, Refused}
+use Rattle.reader.specs.Open.{fileFault}
+use Rattle.reader.specs.File.{File, Ending, whole, stopped}
+use Rattle.reader.specs.declared.State.{State}
+use Rattle.reader.specs.declared.Handed.{Handed}
+use Rattle.reader.specs.declared.Handed.the-variants.{Record as Hands, Refused as Refuses, End}
+use Rattle.reader.specs.declared.Step.{Step}
+
+-- A reader that is opened on a file, or keeps the refusal of the whole file.
+abbrev pub opened : ℕ → ℕ → State
+opened number at = record { number = number; at = at; sofar = start }
+
+-- Opening: the records begin after the version line's eight bytes.
+unfoldable pub openFile : List ℕ → State
+openFile s = cond (eqb (fileFault s .number) 0) (opened 0 8) (opened (fileFault s .number) (fileFault s .place))
+
+-- The end's 1Ah stands at an offset, or nothing does.
+unfoldable pub endAt : List ℕ → ℕ → Bool
+endAt s at = cond (ltb at (length s)) (eqb (getD s at 0) 0x1a) true
+
+-- "After a refusal it refuses the same again; after the end it says the end again": both leave the state as it was.
+abbrev pub refuses : State → ℕ → Step
+refuses t number = record { next = Refuses (refusal number (t .at)); state = t }
+
+-- "Also at the end": 32 at the 1Ah where a needed record is missing.
+abbrev pub closing : State → Step
+closing t = cond (closes (t .sofar .last)) (record { next = End; state = t }) (refuses t 32)
+
+-- A record is handed out, and the reader goes on after it.
+abbrev pub on : State → Answer → ℕ → Step
+on t (Took r) next = record { next = Hands r; state = record { number = 0; at = next; sofar = after (t .sofar) r } }
+on t (Refused f) next = record { next = Refuses f; state = t }
+
+-- One call.
+unfoldable pub nextRecord : List ℕ → State → Step
+nextRecord s t =
+    cond (eqb (t .number) 0)
+    (cond (endAt s (t .at)) (closing t)
+    (on t (lineAt (mayJoin (t .sofar .month) (t .sofar .schedule)) (t .sofar) s (t .at) .answer)
+    (lineAt (mayJoin (t .sofar .month) (t .sofar .schedule)) (t .sofar) s (t .at) .next)))
+    (refuses t (t .number))
+
+-- The answer of the call that has n calls before it, from a state on.
+unfoldable pub call : ℕ → List ℕ → State → Handed
+call zero s t = nextRecord s t .next
+call (suc n) s t = call n s (nextRecord s t .state)
+
+-- What stands at the place n, counted from 0, of what a file is read as: a record, or its ending for ever.
+abbrev pub endingOf : Ending → Handed
+endingOf whole = End
+endingOf (stopped f) = Refuses f
+
+-- The records first.
+unfoldable pub told : ℕ → List Record → Ending → Handed
+told n [] e = endingOf e
+told zero (r ∷ rs) e = Hands r
+told (suc n) (r ∷ rs) e = told n rs e

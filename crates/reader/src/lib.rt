@@ -1,0 +1,175 @@
+// The reader of a prescription file: opened once over the whole file, then one call hands out one record.
+use field::Sofar;
+use record::Answer;
+use record::Record;
+use record::Refusal;
+ghost use mathlib.Core.Path.{_≡_};
+ghost use Rattle.reader.specs.Open.{versionLine};
+ghost use Rattle.reader.specs.File.{checkFile};
+ghost use Rattle.reader.specs.Reader.{opened as openedOf, openFile, refuses, endAt, closing, on, nextRecord};
+
+// Where the reader is in the file, and what the records before leave. A file that was refused on opening keeps its number here, and the offset
+// in `at`.
+pub struct State {
+    pub number: u8,
+    pub at: usize,
+    pub sofar: Sofar,
+}
+
+// What a call hands out.
+pub enum Handed {
+    Record(Record),
+    Refused(Refusal),
+    End,
+}
+
+// An answer and the state to go on with.
+pub struct Step {
+    pub next: Handed,
+    pub state: State,
+}
+
+// The first line is JAHIS5.
+fn is_version(s: &[u8]) -> bool
+    ensures { λ r. ⌜ r ≡ versionLine (now (s .entry)) ⌝ }
+{
+    if s.len() < 7 {
+        return false;
+    }
+    (s[0] == b'J')
+        & ((s[1] == b'A')
+            & ((s[2] == b'H')
+                & ((s[3] == b'I')
+                    & ((s[4] == b'S') & ((s[5] == b'5') & ((s[6] == b'\r') & true))))))
+}
+
+fn opened(number: u8, at: usize) -> State
+    ensures { λ r. ⌜ r ≡ openedOf number at ⌝ }
+{
+    State {
+        number: number,
+        at: at,
+        sofar: record::start(),
+    }
+}
+
+// Tests 20, 21 and 22 over the whole file.
+pub fn open(s: &[u8]) -> State
+    ensures { λ r. ⌜ r ≡ openFile (now (s .entry)) ⌝ }
+{
+    if 16384 < s.len() {
+        return opened(20, 0);
+    }
+    let f = line::frame_fault(s);
+    if f.number != 0 {
+        return opened(21, f.place);
+    }
+    if is_version(s) {
+        return opened(0, 8);
+    }
+    opened(22, 0)
+}
+
+fn refused(t: State, number: u8) -> Step
+    ensures { λ r. ⌜ r ≡ refuses t number ⌝ }
+{
+    Step {
+        next: Handed::Refused(Refusal {
+            number: number,
+            at: t.at,
+            field: 0,
+            code: 0,
+            place: 0,
+        }),
+        state: t,
+    }
+}
+
+// Is the 1Ah, or nothing, at a place?
+fn ends(s: &[u8], at: usize) -> bool
+    ensures { λ r. ⌜ r ≡ endAt (now (s .entry)) at ⌝ }
+{
+    if at < s.len() {
+        return s[at] == 0x1a;
+    }
+    true
+}
+
+// At the 1Ah: the end, or 32 where a record is missing.
+fn close(t: State) -> Step
+    ensures { λ r. ⌜ r ≡ closing t ⌝ }
+{
+    if order::closes(t.sofar.last) {
+        return Step {
+            next: Handed::End,
+            state: t,
+        };
+    }
+    refused(t, 32)
+}
+
+// A record and the state after it, or a refusal and the state as it was.
+fn moved(t: State, answer: Answer, next: usize) -> Step
+    ensures { λ r. ⌜ r ≡ on t answer next ⌝ }
+{
+    match answer {
+        Answer::Took(r) => Step {
+            next: Handed::Record(r),
+            state: State {
+                number: 0,
+                at: next,
+                sofar: record::after(t.sofar, r),
+            },
+        },
+        Answer::Refused(f) => Step {
+            next: Handed::Refused(f),
+            state: t,
+        },
+    }
+}
+
+// The next record, the refusal or the end.
+pub fn next(s: &[u8], t: State) -> Step
+    ensures { λ r. ⌜ r ≡ nextRecord (now (s .entry)) t ⌝ }
+{
+    let at = t.at;
+    if t.number != 0 {
+        return refused(t, t.number);
+    }
+    if ends(s, at) {
+        return close(t);
+    }
+    let l = record::read(t.sofar, s, at);
+    let answer = l.answer;
+    moved(t, answer, l.next)
+}
+
+// How many records a file has with its version line, or its refusal.
+pub enum Checked {
+    Records(usize),
+    Refused(Refusal),
+}
+
+// Reads a whole file, record by record.
+pub fn check(s: &[u8]) -> Checked
+    ensures { λ r. ⌜ r ≡ checkFile (now (s .entry)) ⌝ }
+{
+    let mut t = open(s);
+    let mut n: usize = 1;
+    loop {
+        let step = next(s, t);
+        let answer = step.next;
+        match answer {
+            Handed::Record(_) => {
+                t = step.state;
+                n += 1;
+            }
+            Handed::Refused(f) => {
+                return Checked::Refused(f);
+            }
+            Handed::End => {
+                return Checked::Records(n);
+            }
+        }
+    }
+}

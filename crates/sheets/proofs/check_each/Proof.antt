@@ -1,0 +1,59 @@
+-- What is left of the list falls; no index and no sum passes its bound.
+use Prim.Native.Nat.{_+_, _-_, _≤_}
+use borrow.Author.Needs.{needs}
+use lib.ListN.{length}
+use Rattle.sheets.proofs.check_each.Statement.{statement}
+use Rattle.sheets.proofs.check_each.Tie as tie
+
+abbrev Inv-loop : tie.InvT-loop
+Inv-loop names at₀ at = at ≤ length names + 1
+
+abbrev μ-loop : tie.MeasureT-loop
+μ-loop names at₀ at = length names + 1 - at
+
+loop-holds : tie.Need-loop-holds Inv-loop μ-loop
+loop-holds c = search needs
+
+name-end-requires : tie.Need-name-end-requires Inv-loop μ-loop
+name-end-requires c κs = search needs
+
+sub-check-file : tie.Need-sub-check-file Inv-loop μ-loop
+sub-check-file c = search needs
+
+part-check-file-start : tie.Need-part-check-file-start Inv-loop μ-loop
+part-check-file-start c = search needs
+
+part-check-file-end : tie.Need-part-check-file-end Inv-loop μ-loop
+part-check-file-end c = search needs
+
+check-file-requires : tie.Need-check-file-requires Inv-loop μ-loop
+check-file-requires c κs = search needs
+
+add-at : tie.Need-add-at Inv-loop μ-loop
+add-at c = search needs
+
+loop-less : tie.Need-loop-less Inv-loop μ-loop
+loop-less c = search needs
+
+loop-again : tie.Need-loop-again Inv-loop μ-loop
+loop-again c = search needs
+
+returns : tie.Need-returns Inv-loop μ-loop
+returns c = search needs
+
+pub check-each-spec : {M : Type 1} → statement M
+check-each-spec =
+    tie.close
+    (tie.spec
+    Inv-loop
+    μ-loop
+    loop-holds
+    name-end-requires
+    sub-check-file
+    part-check-file-start
+    part-check-file-end
+    check-file-requires
+    add-at
+    loop-less
+    loop-again
+    returns)
