@@ -2,23 +2,25 @@
 -- Assumes nothing.
 use Prim.Native.Nat.{ℕ, zero, suc, _+_, _<_}
 use mathlib.Core.Path.{_≡_, refl, _∙_, sym, ap}
-use mathlib.Core.List.{List}
+use mathlib.Core.List.{List, map}
 use native.Mathlib.Nat.{add-zero}
 use native.Mathlib.Omega.{arith}
 use borrow.Author.Tests.{eqb-false}
 use lib.Dec.{eqb}
 use lib.ListN.{length}
 use Rattle.cells.proofs.Split.{split}
+use Rattle.order.specs.Order.{Begins, Sheet}
 use Rattle.record.specs.declared.Record.{Record}
 use Rattle.record.specs.declared.Refusal.{Refusal}
 use Rattle.reader.specs.Open.{fileFault}
-use Rattle.reader.specs.File.{File, Ending, whole, stopped, readFile, counted, checkFile}
+use Rattle.reader.specs.File.{File, Ending, whole, stopped, readFile, counted, checkFile, numberOf}
 use Rattle.reader.specs.Reader.{openFile, nextRecord, call, endingOf, told}
 use Rattle.reader.specs.declared.State.{State}
 use Rattle.reader.specs.declared.Handed.{Handed}
 use Rattle.reader.specs.declared.Handed.the-variants.{Record as Hands, Refused as Refuses, End}
 use Rattle.reader.specs.declared.Step.{Step}
 use Rattle.reader.specs.declared.Checked.the-variants.{Records, Refused as Not}
+use Rattle.reader.proofs.Order.{stand}
 use Rattle.reader.proofs.Along.{by-call, rests, Tells, by-rest, from-opening}
 
 abbrev nextOf : Step → Handed
@@ -82,6 +84,15 @@ tells s (suc n) t f k =
 -- From opening on the calls hand out the file's records, one by one, then tell the end or the refusal, and again on every later call.
 pub calls : (s : List ℕ) (n : ℕ) → call n s (openFile s) ≡ told n (readFile s .records) (readFile s .ending)
 calls s n = tells s n (openFile s) (readFile s) (from-opening s)
+
+-- ---- the order of records
+-- "24", "32": the records that a file hands out begin a sheet, by the allowed sequences of `Rattle.order.specs.Order`,
+pub begins : (s : List ℕ) → Begins (map numberOf (readFile s .records))
+begins s = stand s .begins
+
+-- and those of a file that is whole are a sheet.
+pub sheet : (s : List ℕ) → readFile s .ending ≡ whole → Sheet (map numberOf (readFile s .records))
+sheet s h = stand s .sheet h
 
 -- ---- a program that counts the records
 -- After n records, with the version line: what is left of the file, and that it makes out the count.

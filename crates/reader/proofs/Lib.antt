@@ -1,3 +1,4 @@
 pub mod Lines
 pub mod Along
+pub mod Order
 pub mod Laws

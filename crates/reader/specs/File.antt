@@ -13,6 +13,7 @@ use Rattle.field.specs.declared.Sofar.{Sofar}
 use Rattle.record.specs.Record.{start, after, supplements}
 use Rattle.record.specs.Line.{refusal, readParts}
 use Rattle.record.specs.declared.Record.{Record}
+use Rattle.record.specs.declared.Record.the-variants.{Issue, Rp, Usage, Supplement as Supply, Drug, Kept}
 use Rattle.record.specs.declared.Refusal.{Refusal}
 use Rattle.record.specs.declared.Answer.{Answer}
 use Rattle.record.specs.declared.Answer.the-variants.{Took, Refused}
@@ -63,6 +64,15 @@ readLines at c xs (l ∷ ls) =
 unfoldable pub readFile : List ℕ → File
 readFile s =
     cond (eqb (fileFault s .number) 0) (readLines 8 start [] (drop 1 (linesOf s))) (ended (stopped (refusal (fileFault s .number) (fileFault s .place))))
+
+-- The number of a record.
+abbrev pub numberOf : Record → ℕ
+numberOf (Issue x) = 51
+numberOf (Rp x) = 101
+numberOf (Usage x) = 111
+numberOf (Supply x) = 181
+numberOf (Drug x) = 201
+numberOf (Kept x) = x .number
 
 -- How many records a file has, with its version line; or its refusal.
 abbrev pub counted : ℕ → Ending → Checked
