@@ -41,7 +41,7 @@ module _ (s : List ℕ) where
   unfolding file
   line-back joins c at l ls rest e more (Took r) h w =
       ap₂ (λ (k : List ℕ) (ks : List (List ℕ)). k ∷ ks)
-      (record-back joins c s at (split l) (0x0d ∷ 0x0a ∷ file ls) r h (rw join-split e) ∙ join-split l) (more r w)
+      (record-back joins c s at (0x0d ∷ 0x0a ∷ file ls) r (split l) h (rw join-split e) ∙ join-split l) (more r w)
   line-back joins c at l ls rest e more (Refused f) h w = never-whole w
 
   -- All lines from an offset on.

@@ -1,5 +1,11 @@
+pub mod Numbers
+pub mod Clean
+pub mod Codes
 pub mod Field
 pub mod Row
+pub mod Taken
+pub mod Plain
 pub mod Record
+pub mod Again
 pub mod File
 pub mod Laws

@@ -1,20 +1,23 @@
--- What a record holds, its texts as their bytes; and the bytes that it is written as. Each field is written from what it holds alone.
+-- What a record holds, its texts as their bytes; and the bytes that it is written as, each field from what it holds alone. Reading a file and writing one are
+-- stated over this.
 -- Assumes nothing.
 use Prim.Native.Nat.{ℕ}
 use mathlib.Core.Bool.{cond}
 use mathlib.Core.List.{List, [], _∷_, map}
-use lib.Dec.{eqb}
+use lib.Dec.{eqb, leb}
+use lib.ListN.{length}
+use lib.Seq.{slice}
 use Rattle.cells.specs.Text.{bytes}
 use Rattle.line.specs.Frame.{file}
 use Rattle.line.specs.Fields.{split, join}
 use Rattle.number.specs.Print.{printNumber, printAmount}
-use Rattle.date.specs.Print.{printDate}
 use Rattle.date.specs.declared.Date.{Date}
 use Rattle.usage.specs.declared.Instruction.{Instruction}
-use Rattle.usage_writer.specs.Code.Write.{raw as printUsage}
 use Rattle.supplement.specs.declared.Supplement.{Supplement}
-use Rattle.supplement_writer.specs.Code.Write.{raw as printSupplement}
+use Rattle.printed.specs.Printed.{noField, dateField, usageField, supplementField}
+use Rattle.row.specs.Table.{typed}
 use Rattle.record.specs.Record.{textAt}
+use Rattle.record.specs.declared.Place.{Place}
 use Rattle.record.specs.declared.UsageCode.{UsageCode}
 use Rattle.record.specs.declared.UsageCode.the-variants.{Is as usageIs, Empty as noUsage}
 use Rattle.record.specs.declared.SupplementCode.{SupplementCode}
@@ -55,32 +58,45 @@ supplementValue noSupplement = none
 abbrev pub holding : ℕ → List Value → Held
 holding n vs = record { number = n; values = vs }
 
--- What a record of the file s holds, in the order of document 01's table.
-abbrev pub held : List ℕ → Record → Held
-held s (Issue x) = holding 51 (day (x .date) ∷ [])
-held s (Rp x) = holding 101 (number (x .rp .0) ∷ number (x .form) ∷ text (textAt s (x .name)) ∷ number (x .quantity) ∷ [])
-held s (Usage x) =
-    holding 111 (number (x .rp .0) ∷ number (x .kind) ∷ usageValue (x .code) ∷ text (textAt s (x .name)) ∷ optional (x .times) ∷ [])
-held s (Supply x) =
+-- What a record holds, in the order of document 01's table, where its texts' places are read by `read`. A kept record's number is one that has no line
+-- in the table; any other is no record's number to it, which is 0.
+abbrev pub heldBy : (Place → List ℕ) → Record → Held
+heldBy read (Issue x) = holding 51 (day (x .date) ∷ [])
+heldBy read (Rp x) = holding 101 (number (x .rp .0) ∷ number (x .form) ∷ text (read (x .name)) ∷ number (x .quantity) ∷ [])
+heldBy read (Usage x) =
+    holding 111 (number (x .rp .0) ∷ number (x .kind) ∷ usageValue (x .code) ∷ text (read (x .name)) ∷ optional (x .times) ∷ [])
+heldBy read (Supply x) =
     holding 181
     (number (x .rp .0) ∷
     number (x .serial .0) ∷
     optional (x .kind) ∷
-    text (textAt s (x .text)) ∷
+    text (read (x .text)) ∷
     supplementValue (x .code) ∷
-    text (textAt s (x .site)) ∷ [])
-held s (Drug x) =
+    text (read (x .site)) ∷ [])
+heldBy read (Drug x) =
     holding 201
     (number (x .rp .0) ∷
     number (x .serial .0) ∷
     optional (x .kind) ∷
     number (x .coding) ∷
-    text (textAt s (x .code)) ∷
-    text (textAt s (x .name)) ∷
+    text (read (x .code)) ∷
+    text (read (x .name)) ∷
     amount (x .amount) ∷
     number (x .flag) ∷
-    text (textAt s (x .unit)) ∷ [])
-held s (Kept x) = holding (x .number) (map text (split (textAt s (x .fields))))
+    text (read (x .unit)) ∷ [])
+heldBy read (Kept x) = holding (cond (typed (x .number)) 0 (x .number)) (map text (split (read (x .fields))))
+
+-- What a record of the file s holds.
+abbrev pub held : List ℕ → Record → Held
+held s r = heldBy (textAt s) r
+
+-- A text in the bytes that a caller lends beside a record: a place outside them is no text.
+unfoldable pub lentText : List ℕ → Place → List ℕ
+lentText lent p = cond (leb (p .from) (p .to)) (cond (leb (p .to) (length lent)) (slice (p .from) (p .to) lent) noField) noField
+
+-- What a record holds whose texts lie in lent bytes.
+abbrev pub lentHeld : List ℕ → Record → Held
+lentHeld lent r = heldBy (lentText lent) r
 
 -- The field that a value is written as.
 abbrev pub print : Value → List ℕ
@@ -88,13 +104,17 @@ print none = []
 print (number n) = printNumber n
 print (amount n) = printAmount n
 print (text b) = b
-print (day t) = printDate t
-print (usage i) = printUsage i
-print (supplement x) = printSupplement x
+print (day t) = dateField t
+print (usage i) = usageField i
+print (supplement x) = supplementField x
 
--- The line that a record is written as: its number and its fields, commas between them.
+-- The parts of the line that a record is written as: its number, and its fields.
+abbrev pub parts : Held → List (List ℕ)
+parts h = printNumber (h .number) ∷ map print (h .values)
+
+-- The line: the parts with commas between them.
 unfoldable pub printRecord : Held → List ℕ
-printRecord h = join (printNumber (h .number) ∷ map print (h .values))
+printRecord h = join (parts h)
 
 -- The file that records are written as: "version line `JAHIS5`, records, each ended by CR LF, then one byte 1Ah".
 unfoldable pub printFile : List Held → List ℕ

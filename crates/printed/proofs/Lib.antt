@@ -1,0 +1,6 @@
+pub mod Held
+pub mod Laws
+pub mod Digits
+pub mod Decimals
+pub mod Fields
+pub mod Dates

@@ -1,0 +1,26 @@
+-- A whole file written: opening, one record after the other, closing.
+-- Assumes nothing.
+use Prim.Native.Nat.{ℕ}
+use mathlib.Core.Bool.{cond}
+use mathlib.Core.List.{List, [], _∷_}
+use lib.Dec.{eqb}
+use Rattle.record.specs.declared.Record.{Record}
+use Rattle.writer.specs.Writer.{Left, openBuffer, putRecord, closeBuffer}
+
+-- A record and the bytes that its texts lie in.
+pub record Item : Type 0 where
+  pub holds : Record
+  pub lent : List ℕ
+
+-- On with the next call, unless this one was refused.
+abbrev pub next : Left → (Left → Left) → Left
+next w more = cond (eqb (w .put .number) 0) (more w) w
+
+-- Records put one after the other, then the file closed.
+unfoldable pub putAll : List Item → Left → Left
+putAll [] w = closeBuffer (w .buffer) (w .put .state)
+putAll (x ∷ xs) w = next (putRecord (w .buffer) (w .put .state) (x .holds) (x .lent)) (λ v. putAll xs v)
+
+-- All the calls for a file, into a buffer.
+unfoldable pub writeFile : List ℕ → List Item → Left
+writeFile out xs = next (openBuffer out) (λ w. putAll xs w)
