@@ -30,7 +30,7 @@ use Rattle.printed.proofs.Laws.{date-reads, usage-reads, supplement-reads}
 use Rattle.order.specs.Code.Next.{follow}
 use Rattle.field.specs.Field.{rule, isEmpty, isDay, numberOf, faultIn, codeFault, wrong}
 use Rattle.field.specs.declared.Sofar.{Sofar}
-use Rattle.row.specs.Table.{nth, typed, rules, rulesOf}
+use Rattle.row.specs.Table.{nth, typed, rules, rulesFrom}
 use Rattle.record.specs.Record.{placeOf, textAt, dateIn, usageIn, supplementIn, recordOf, after, supplements}
 use Rattle.record.specs.Line.{numberIn, readParts}
 use Rattle.record.specs.declared.UsageCode.{UsageCode}
@@ -200,7 +200,7 @@ module _ (joins : Supplement → Bool) (c : Sofar) where
   -- the record of a record's own number and fields, where they are fine
   same-record : (lent : List ℕ) (at : ℕ) (r : Record) → (lentHeld lent r .number ≡ 0 → ⊥) → Fine joins c (lentHeld lent r .number) (fieldsOf lent r) →
       recordOf (lentHeld lent r .number) at (fieldsOf lent r) ≡ moved at (fieldsOf lent r) r
-  unfolding moved recordOf rules rulesOf typed
+  unfolding moved recordOf rules rulesFrom typed
   same-record lent at (Issue x) z w =
       let d : dateIn (readDate (dateField (x .date))) ≡ x .date =
       date-value (x .date) (readDate (dateField (x .date))) refl (day-read joins c (dateField (x .date)) (w .passes 0 (omega arith))) in

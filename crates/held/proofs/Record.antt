@@ -17,7 +17,7 @@ use Rattle.number.specs.Print.{printNumber}
 use Rattle.supplement.specs.declared.Supplement.{Supplement}
 use Rattle.field.specs.Field.{valued}
 use Rattle.field.specs.declared.Sofar.{Sofar}
-use Rattle.row.specs.Table.{nth, typed, rulesOf, rules, onlyWith}
+use Rattle.row.specs.Table.{nth, typed, rulesFrom, rules, onlyWith}
 use Rattle.record.specs.Record.{offset, placeOf, textAt, recordOf}
 use Rattle.record.specs.Line.{numberIn, readParts}
 use Rattle.record.specs.declared.Place.{Place}
@@ -51,13 +51,13 @@ module _ (joins : Supplement → Bool) (c : Sofar) (read : Place → List ℕ) (
   line-of n vs e = ap (λ (r : List (List ℕ)). printNumber n ∷ r) e
 
   written51 : Fine joins c 51 fs → Written 51
-  unfolding Written recordOf typed rules rulesOf placed
+  unfolding Written recordOf typed rules rulesFrom placed
   written51 w =
       let l : length fs ≡ 1 = w .count in
       line-of 51 _ ((λ i. date-back joins c (nth 1 fs) (w .passes 0 (omega arith)) i ∷ []) ∙ by-places 1 fs l)
 
   written101 : Fine joins c 101 fs → Written 101
-  unfolding Written recordOf typed rules rulesOf placed valued
+  unfolding Written recordOf typed rules rulesFrom placed valued
   written101 w =
       let l : length fs ≡ 4 = w .count in
       line-of 101 _
@@ -68,7 +68,7 @@ module _ (joins : Supplement → Bool) (c : Sofar) (read : Place → List ℕ) (
       ∙ by-places 4 fs l)
 
   written111 : Fine joins c 111 fs → Written 111
-  unfolding Written recordOf typed rules rulesOf placed valued
+  unfolding Written recordOf typed rules rulesFrom placed valued
   written111 w =
       let l : length fs ≡ 5 = w .count in
       line-of 111 _
@@ -80,7 +80,7 @@ module _ (joins : Supplement → Bool) (c : Sofar) (read : Place → List ℕ) (
       ∙ by-places 5 fs l)
 
   written181 : Fine joins c 181 fs → Written 181
-  unfolding Written recordOf typed rules rulesOf placed valued
+  unfolding Written recordOf typed rules rulesFrom placed valued
   written181 w =
       let l : length fs ≡ 6 = w .count in
       line-of 181 _
@@ -93,7 +93,7 @@ module _ (joins : Supplement → Bool) (c : Sofar) (read : Place → List ℕ) (
       ∙ by-places 6 fs l)
 
   written201 : Fine joins c 201 fs → Written 201
-  unfolding Written recordOf typed rules rulesOf placed valued
+  unfolding Written recordOf typed rules rulesFrom placed valued
   written201 w =
       let l : length fs ≡ 9 = w .count in
       line-of 201 _

@@ -19,7 +19,7 @@ use Rattle.supplement.specs.declared.Supplement.{Supplement}
 use Rattle.field.specs.Field.{readField}
 use Rattle.field.specs.declared.Rule.{Rule}
 use Rattle.field.specs.declared.Sofar.{Sofar}
-use Rattle.row.specs.Table.{nth, typed, rules, rulesOf, counted}
+use Rattle.row.specs.Table.{nth, typed, rules, rulesFrom, counted}
 use Rattle.row.specs.Row.{fieldsAt, values, valueAt, noValue, inNine, fine, valuesOf, fieldByField, readRow}
 use Rattle.row.specs.declared.Value.{Value}
 use Rattle.row.specs.declared.Row.{Row}
@@ -128,11 +128,11 @@ module _ (joins : Supplement → Bool) (c : Sofar) (s : List ℕ) (from : ℕ) (
         (fields-stand s from h (k + 1) (omega (arith, a, l)))
 
   at51 : Is 51
-  unfolding builtOf recordOf rules rulesOf typed
+  unfolding builtOf recordOf rules rulesFrom typed
   at51 z p = let b1 = bytes 51 1 z refl 0 (omega arith) in λ j. Issue (record { date = dateIn (readDate (b1 j)) })
 
   at101 : Is 101
-  unfolding builtOf recordOf rules rulesOf typed
+  unfolding builtOf recordOf rules rulesFrom typed
   at101 z p =
       let e : (k : ℕ) → k < 4 → Cell 101 k = its 101 4 z refl in
       let e1 = e 0 (omega arith) in
@@ -142,7 +142,7 @@ module _ (joins : Supplement → Bool) (c : Sofar) (s : List ℕ) (from : ℕ) (
       λ j. Rp (record { rp = record { 0 = e1 j .n }; form = e2 j .n; name = placeIn (e3 j); quantity = e4 j .n })
 
   at111 : Is 111
-  unfolding builtOf recordOf rules rulesOf typed
+  unfolding builtOf recordOf rules rulesFrom typed
   at111 z p =
       let e : (k : ℕ) → k < 5 → Cell 111 k = its 111 5 z refl in
       let e1 = e 0 (omega arith) in
@@ -154,7 +154,7 @@ module _ (joins : Supplement → Bool) (c : Sofar) (s : List ℕ) (from : ℕ) (
       (record { rp = record { 0 = e1 j .n }; kind = e2 j .n; code = usageIn (readUsage (b3 j)); name = placeIn (e4 j); times = e5 j .n })
 
   at181 : Is 181
-  unfolding builtOf recordOf rules rulesOf typed
+  unfolding builtOf recordOf rules rulesFrom typed
   at181 z p =
       let e : (k : ℕ) → k < 6 → Cell 181 k = its 181 6 z refl in
       let e1 = e 0 (omega arith) in
@@ -174,7 +174,7 @@ module _ (joins : Supplement → Bool) (c : Sofar) (s : List ℕ) (from : ℕ) (
       })
 
   at201 : Is 201
-  unfolding builtOf recordOf rules rulesOf typed
+  unfolding builtOf recordOf rules rulesFrom typed
   at201 z p =
       let e : (k : ℕ) → k < 9 → Cell 201 k = its 201 9 z refl in
       let e1 = e 0 (omega arith) in

@@ -19,7 +19,7 @@ use Rattle.field.specs.Field.{free, text, right, readField}
 use Rattle.field.specs.declared.Rule.{Rule}
 use Rattle.field.specs.declared.Sofar.{Sofar}
 use Rattle.field.proofs.Laws.{right-when}
-use Rattle.row.specs.Table.{typed, rules, rulesOf, counted}
+use Rattle.row.specs.Table.{typed, rules, rulesFrom, rulesOf, counted}
 use Rattle.row.specs.Row.{values, noValue, blanks, inNine, miscounted, fieldByField, valuesOf, fine, readRow}
 use Rattle.row.specs.Code.Walk.{noRule, tableOf, valueOf, rowFrom, keptFrom}
 use Rattle.row.specs.declared.Value.{Value}
@@ -108,7 +108,7 @@ module _ (joins : Supplement → Bool) (c : Sofar) where
 
     -- a table has one to nine fields
     pub table-size : (1 ≤ length (rulesOf n fs)) × (length (rulesOf n fs) ≤ 9)
-    unfolding rulesOf
+    unfolding rulesFrom
     table-size =
         split (eqb n 51) (λ e. simp e (omega arith, omega arith))
         (λ a.

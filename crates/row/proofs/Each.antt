@@ -17,7 +17,7 @@ use Rattle.field.specs.Field.{free, date, joined, listed, wrong, readField}
 use Rattle.field.specs.declared.Rule.{Rule}
 use Rattle.field.specs.declared.Sofar.{Sofar}
 use Rattle.field.proofs.Laws.{passes}
-use Rattle.row.specs.Table.{nth, typed, rules, rulesOf, counted}
+use Rattle.row.specs.Table.{nth, typed, rules, rulesFrom, counted}
 use Rattle.row.specs.Row.{fieldByField, fine, valuesOf, readRow}
 use Rattle.row.specs.declared.Row.{Row}
 
@@ -64,6 +64,6 @@ module _ (joins : Supplement → Bool) (c : Sofar) where
 
   -- The supplement of a record 181 that is read may stand after those before it in its RP.
   pub may-join : (at : ℕ) (fs : List (List ℕ)) → readRow joins c 181 at fs .number ≡ 0 → joined joins (readSupplement (nth 5 fs)) ≡ true
-  unfolding rules rulesOf typed
+  unfolding rules rulesFrom typed
   may-join at fs h =
       may-stand _ (nth 5 fs) refl (right-fields 181 at fs h 4 (date free) (omega (arith, as-many 181 at fs h)))

@@ -64,19 +64,34 @@ rules201 code name =
 unfoldable pub typed : ℕ → Bool
 typed n = eqb n 51 || (eqb n 101 || (eqb n 111 || (eqb n 181 || eqb n 201)))
 
--- The rules of the table's records. "Code in 111: required with kind 2, else forbidden; supplement in 181: the same with kind 8; site: the same
--- with kind 9."
-unfoldable pub rulesOf : ℕ → List (List ℕ) → List Rule
-rulesOf n fs =
+-- The field, counted from 1, that holds the kind by which other fields go, and the one that holds the drug code; the first where there is none.
+abbrev pub kindField : ℕ → ℕ
+kindField n = cond (eqb n 111) 2 (cond (eqb n 181) 3 (cond (eqb n 201) 4 1))
+
+-- The drug code's.
+abbrev pub codeField : ℕ → ℕ
+codeField n = cond (eqb n 201) 5 1
+
+-- The rules of the table's records, by the kind and the drug code. "Code in 111: required with kind 2, else forbidden; supplement in 181: the
+-- same with kind 8; site: the same with kind 9."
+unfoldable pub rulesFrom : ℕ → List ℕ → List ℕ → List Rule
+rulesFrom n kind code =
     cond (eqb n 51) rules51
     (cond (eqb n 101) rules101
-    (cond (eqb n 111) (rules111 (onlyWith 0x32 (nth 2 fs)))
-    (cond (eqb n 181) (rules181 (onlyWith 0x38 (nth 3 fs)) (onlyWith 0x39 (nth 3 fs)))
-    (rules201 (drugCodeNeed (nth 4 fs)) (nameNeed (nth 4 fs) (nth 5 fs))))))
+    (cond (eqb n 111) (rules111 (onlyWith 0x32 kind))
+    (cond (eqb n 181) (rules181 (onlyWith 0x38 kind) (onlyWith 0x39 kind)) (rules201 (drugCodeNeed kind) (nameNeed kind code)))))
+
+-- The rules of a table's record, by its fields.
+abbrev pub rulesOf : ℕ → List (List ℕ) → List Rule
+rulesOf n fs = rulesFrom n (nth (kindField n) fs) (nth (codeField n) fs)
 
 -- "Those with no line here are kept as one or more fields of text, each 0 to 200 bytes."
+abbrev pub keptRule : Rule
+keptRule = text free 200
+
+-- The rules of a record's fields, as many as it has.
 unfoldable pub rules : ℕ → List (List ℕ) → List Rule
-rules n fs = cond (typed n) (rulesOf n fs) (map (λ f. text free 200) fs)
+rules n fs = cond (typed n) (rulesOf n fs) (map (λ f. keptRule) fs)
 
 -- "25 number of fields": as many as the record has, and one or more of those that are kept.
 unfoldable pub counted : ℕ → List (List ℕ) → Bool

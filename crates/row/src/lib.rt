@@ -10,7 +10,7 @@ ghost use Rattle.cells.specs.Text.{bytes};
 ghost use Rattle.cells.specs.Code.Same.{eqs};
 ghost use Rattle.field.specs.Field.{rule as ruleOf};
 ghost use Rattle.schedule.specs.Code.Kept.{mayJoin};
-ghost use Rattle.row.specs.Table.{mark as markOf, rules51, rules101, rules111, rules181, rules201, rulesOf, typed as typedOf, nth};
+ghost use Rattle.row.specs.Table.{mark as markOf, rules51, rules101, rules111, rules181, rules201, kindField, codeField, rulesFrom, rulesOf, keptRule, typed as typedOf, nth};
 ghost use Rattle.row.specs.Row.{fieldsAt, lineEnds, blanks, refusedAt, miscounted as miscountedRow, readRow};
 ghost use Rattle.row.specs.Code.Walk.{needWith, drugNeed, nameNeedOf, tableOf, rowFrom, keptFrom};
 
@@ -34,9 +34,9 @@ pub struct Row {
 }
 
 // The rules of a record's fields, as many as it has.
-struct Rules {
-    count: usize,
-    each: [Rule; 9],
+pub struct Rules {
+    pub count: usize,
+    pub each: [Rule; 9],
 }
 
 fn rule(need: u8, form: u8, lo: u16, hi: u16) -> Rule
@@ -263,6 +263,12 @@ fn field_count(s: &[u8], at: usize) -> usize
     }
 }
 
+fn table_of_usage(kind: u8) -> Rules
+    ensures { λ t. ⌜ t ≡ tableOf (rules111 (needWith 50 kind)) ⌝ }
+{
+    table_111(need_with(b'2', kind))
+}
+
 fn table_of_supplement(kind: u8) -> Rules
     ensures { λ t. ⌜ t ≡ tableOf (rules181 (needWith 56 kind) (needWith 57 kind)) ⌝ }
 {
@@ -275,9 +281,9 @@ fn table_of_drug(kind: u8, unlisted: bool) -> Rules
     table_201(drug_code_need(kind), name_need(kind, unlisted))
 }
 
-// The rules of a typed record, which for some fields go by others.
-fn table(n: u16, s: &[u8], at: usize) -> Rules
-    ensures { λ t. ⌜ t ≡ tableOf (rulesOf n (fieldsAt (now (s .entry)) at)) ⌝ }
+// The rules of a typed record, which for some fields go by its kind and its drug code.
+pub fn rules_of(n: u16, kind: &[u8], code: &[u8]) -> Rules
+    ensures { λ t. ⌜ t ≡ tableOf (rulesFrom n (now (kind .entry)) (now (code .entry))) ⌝ }
 {
     if n == 51 {
         return table_51();
@@ -286,16 +292,60 @@ fn table(n: u16, s: &[u8], at: usize) -> Rules
         return table_101();
     }
     if n == 111 {
-        return table_111(need_with(b'2', mark(nth_field(s, at, 2))));
+        return table_of_usage(mark(kind));
     }
     if n == 181 {
-        return table_of_supplement(mark(nth_field(s, at, 3)));
+        return table_of_supplement(mark(kind));
     }
-    table_of_drug(mark(nth_field(s, at, 4)), is_unlisted(nth_field(s, at, 5)))
+    table_of_drug(mark(kind), is_unlisted(code))
+}
+
+// The field, counted from 1, that holds the kind by which others go.
+pub fn kind_field(n: u16) -> usize
+    ensures { λ k. ⌜ k ≡ kindField n ⌝ }
+{
+    if n == 111 {
+        return 2;
+    }
+    if n == 181 {
+        return 3;
+    }
+    if n == 201 {
+        return 4;
+    }
+    1
+}
+
+// The field that holds the drug code.
+pub fn code_field(n: u16) -> usize
+    ensures { λ k. ⌜ k ≡ codeField n ⌝ }
+{
+    if n == 201 {
+        return 5;
+    }
+    1
+}
+
+// The rules of the typed record whose fields stand at a place.
+fn table(n: u16, s: &[u8], at: usize) -> Rules
+    ensures { λ t. ⌜ t ≡ tableOf (rulesOf n (fieldsAt (now (s .entry)) at)) ⌝ }
+{
+    rules_of(
+        n,
+        nth_field(s, at, kind_field(n)),
+        nth_field(s, at, code_field(n)),
+    )
+}
+
+// The rule of each field of a record that is kept.
+pub fn kept_rule() -> Rule
+    ensures { λ r. ⌜ r ≡ keptRule ⌝ }
+{
+    rule(field::FREE, field::TEXT, 0, 200)
 }
 
 // Is a record of this number one of the table's?
-fn typed(n: u16) -> bool
+pub fn typed(n: u16) -> bool
     ensures { λ r. ⌜ r ≡ typedOf n ⌝ }
 {
     (n == 51) | ((n == 101) | ((n == 111) | ((n == 181) | (n == 201))))
@@ -384,7 +434,7 @@ fn read_kept(c: Sofar, s: &[u8], at: usize) -> Row
     let mut i: usize = 1;
     loop {
         let to = line::field_end(s, from);
-        let f = field::read(c, rule(field::FREE, field::TEXT, 0, 200), &s[from..to]);
+        let f = field::read(c, kept_rule(), &s[from..to]);
         if f.number != 0 {
             return refused(i, f);
         }

@@ -1,12 +1,12 @@
 -- Each turn leaves the fields after the next comma.
 use native.Mathlib.Omega.{arith}
-use Prim.Native.Nat.{ℕ, _+_, _-_, _≤_}
+use Prim.Native.Nat.{_+_, _-_, _≤_}
 use mathlib.Core.Path.{_≡_, refl, sym, ap, _∙_}
 use mathlib.Core.List.{[], _∷_}
 use lib.ListN.{length}
 use lib.Seq.{slice}
 use Rattle.row.specs.Row.{fieldsAt}
-use Rattle.row.proofs.Walk.{after-start, before-end, more-fit, more, last}
+use Rattle.row.proofs.Walk.{after-start, more-fit, more, last}
 use Rattle.row.proofs.field_count.Statement.{statement}
 use Rattle.row.proofs.field_count.Tie as tie
 

@@ -2,10 +2,9 @@
 use native.Mathlib.Omega.{arith}
 use Prim.Native.Nat.{ℕ, _+_, _-_, _≤_}
 use mathlib.Core.Path.{_≡_, refl, sym, ap, _∙_}
-use mathlib.Core.List.{List, [], _∷_}
+use mathlib.Core.List.{List, []}
 use borrow.Author.Needs.{needs}
 use lib.ListN.{length, getD}
-use lib.Seq.{slice}
 use Rattle.line.proofs.Laws.{part}
 use Rattle.row.specs.Row.{fieldsAt}
 use Rattle.row.proofs.Walk.{after-start, before-end, more-fit, first, later, none-later, outside}

@@ -65,8 +65,8 @@ loop-holds c = search needs
 field-end-requires : tie.Need-field-end-requires Inv-loop μ-loop
 field-end-requires c κs = search needs
 
-rule-requires : tie.Need-rule-requires Inv-loop μ-loop
-rule-requires c κs = search needs
+kept-rule-requires : tie.Need-kept-rule-requires Inv-loop μ-loop
+kept-rule-requires c κs = search needs
 
 sub-read : tie.Need-sub-read Inv-loop μ-loop
 sub-read c =
@@ -100,7 +100,7 @@ returns c =
     let f = c .before .before .before .before .before .before in
     let a = f .before .before .before .args in
     let l = f .before .loop in
-    let u = c .before .before .before .before .before .rule in
+    let u = c .before .before .before .before .before .kept-rule in
     let r = c .before .before .before .read in
     c .refused .ensures
     ∙ sym (wrong-field (mayJoin (a .c .month) (a .c .schedule)) (a .c) (a .s .now) (l .from) (l .inv .0) (f .field-end .result) (f .field-end .ensures) (u .result) (u .ensures) (r .result) (r .ensures) (l .i) (c .before .if1 .taken))
@@ -125,7 +125,7 @@ returns-2 c =
     let f = c .before .before .before .before .before .before .before .before in
     let a = f .before .before .before .args in
     let l = f .before .loop in
-    let u = c .before .before .before .before .before .before .before .rule in
+    let u = c .before .before .before .before .before .before .before .kept-rule in
     let r = c .before .before .before .before .before .read in
     let ends = sym (c .before .before .line-ends .ensures) ∙ c .before .if2 .taken in
     rw (c .blank .ensures)
@@ -157,7 +157,7 @@ loop-again c =
     let f = c .before .before .before .before .before .before .before in
     let a = f .before .before .before .args in
     let l = f .before .loop in
-    let u = c .before .before .before .before .before .before .rule in
+    let u = c .before .before .before .before .before .before .kept-rule in
     let r = c .before .before .before .before .read in
     let on = sym (c .before .line-ends .ensures) ∙ c .if2 .left in (
       more-fit (a .s .now) (l .from) (l .inv .0) (f .field-end .result) (f .field-end .ensures) on,
@@ -173,7 +173,7 @@ read-kept-spec =
     μ-loop
     loop-holds
     field-end-requires
-    rule-requires
+    kept-rule-requires
     sub-read
     part-read-start
     part-read-end

@@ -6,10 +6,11 @@ use mathlib.Core.List.{List, [], _∷_, _++_}
 use lib.Dec.{eqb}
 use lib.ListN.{length, getD, set, replicate}
 use Rattle.supplement.specs.declared.Supplement.{Supplement}
-use Rattle.field.specs.Field.{rule, free, required, forbidden, text, readField}
+use Rattle.field.specs.Field.{rule, free, required, forbidden, readField}
 use Rattle.field.specs.declared.Rule.{Rule}
 use Rattle.field.specs.declared.Sofar.{Sofar}
 use Rattle.field.specs.declared.Field.{Field}
+use Rattle.row.specs.Table.{keptRule}
 use Rattle.row.specs.Row.{blanks, refusedAt}
 use Rattle.row.specs.declared.Value.{Value}
 use Rattle.row.specs.declared.Row.{Row}
@@ -51,5 +52,5 @@ rowFrom joins c i from rs (f ∷ fs) vs =
 unfoldable pub keptFrom : (Supplement → Bool) → Sofar → ℕ → ℕ → List (List ℕ) → Row
 keptFrom joins c i from [] = record { number = 0; field = 0; code = 0; place = 0; values = blanks; after = from }
 keptFrom joins c i from (f ∷ fs) =
-    cond (eqb (readField joins c (text free 200) f .number) 0) (keptFrom joins c (i + 1) (from + length f + 1) fs)
-    (refusedAt i (readField joins c (text free 200) f))
+    cond (eqb (readField joins c keptRule f .number) 0) (keptFrom joins c (i + 1) (from + length f + 1) fs)
+    (refusedAt i (readField joins c keptRule f))
