@@ -35,8 +35,8 @@ no-record f r h = absurd (let z : _≡_ {A = ℕ} 0 1 = cc in omega arith)
 same-record : (q r : Record) → Took q ≡ Took r → q ≡ r
 same-record q r h = cc
 
--- the record of a number has that number
-its-number : (n at : ℕ) (fs : List (List ℕ)) → numberOf (recordOf n at fs) ≡ n
+-- The record of a number has that number,
+pub its-number : (n at : ℕ) (fs : List (List ℕ)) → numberOf (recordOf n at fs) ≡ n
 unfolding recordOf
 its-number n at fs =
     cases (eqb n 51) (λ e. simp e (sym (eqb-true n 51 e)))
@@ -48,8 +48,8 @@ its-number n at fs =
     cases (eqb n 181) (λ e. simp (a, b, d, e) (sym (eqb-true n 181 e)))
     (λ f. cases (eqb n 201) (λ e. simp (a, b, d, f, e) (sym (eqb-true n 201 e))) (λ g. simp (a, b, d, f, g))))))
 
--- and leaves it
-leaves-number : (c : Sofar) (r : Record) → after c r .last ≡ numberOf r
+-- and leaves it.
+pub leaves-number : (c : Sofar) (r : Record) → after c r .last ≡ numberOf r
 leaves-number c (Issue x) = refl
 leaves-number c (Rp x) = refl
 leaves-number c (Usage x) = refl
