@@ -36,7 +36,8 @@ keeps-start : Keeps start []
 unfolding start
 keeps-start = record { listed = nothing-kept 0; keeps = refl }
 
-not-long : (s : List ℕ) → fileFault s .number ≡ 0 → length s ≤ 16384
+-- a file that passes its tests is not too long
+pub not-long : (s : List ℕ) → fileFault s .number ≡ 0 → length s ≤ 16384
 unfolding fileFault
 not-long s h = leb-true (length s) 16384 (passed (leb (length s) 16384) 20 0 _ (λ z. omega arith) h .0)
 
@@ -80,8 +81,8 @@ no-fault ls h l =
     let f : frameFault (file (bytes "JAHIS5" ∷ ls)) .number ≡ 0 = framed t .1 (record { lines = bytes "JAHIS5" ∷ ls; some = omega arith; plain = h; bytes = refl }) in
     rw (le-leb (length t) 16384 (omega arith), f)
 
--- and are read from offset 8 on
-lines-read : (ls : List (List ℕ)) → plainLines ls ≡ true → 8 + length (file ls) ≤ 16384 → readFile (file (bytes "JAHIS5" ∷ ls)) ≡ readLines 8 start [] ls
+-- They are read from offset 8 on.
+pub lines-read : (ls : List (List ℕ)) → plainLines ls ≡ true → 8 + length (file ls) ≤ 16384 → readFile (file (bytes "JAHIS5" ∷ ls)) ≡ readLines 8 start [] ls
 unfolding readFile plainLines plainLine plain bytes
 lines-read ls h l = rw (no-fault ls h l) (ap (λ (k : List (List ℕ)). readLines 8 start [] (drop 1 k)) (lines-of (bytes "JAHIS5" ∷ ls) h))
 

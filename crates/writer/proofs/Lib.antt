@@ -1,3 +1,6 @@
 pub mod WriteBack
 pub mod ReadBack
+pub mod Line
 pub mod Laws
+pub mod Along
+pub mod Calls

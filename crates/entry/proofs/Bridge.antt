@@ -1,0 +1,244 @@
+-- What is wrong with a record's parts, judged one by one, is what the reader says of its line.
+-- Assumes nothing.
+use Prim.Native.Nat.{ℕ, suc, _+_, _-_, _≤_, _<_}
+use mathlib.Core.Path.{_≡_, refl, _∙_, sym, ap, ap₂}
+use mathlib.Core.Bool.{Bool, true, false, cond, _&&_}
+use mathlib.Core.List.{List, [], _∷_, _++_, map}
+use native.Mathlib.Numerals.{add-one}
+use native.Mathlib.Nat.{zero-add, add-zero}
+use native.Mathlib.Omega.{arith}
+use borrow.Author.Tests.{eqb-true, eqb-false, eq-eqb, le-leb}
+use lib.Dec.{eqb, leb}
+use lib.ListN.{length, getD, drop, replicate, length-map, List·getD-append, List·getD-map}
+use lib.Seq.{take-append-seam}
+use Rattle.cells.proofs.Split.{split as cases}
+use Rattle.line.specs.Fields.{split, push, join}
+use Rattle.number.specs.Number.{figure, figures, value, shortest, readNumber}
+use Rattle.number.specs.Print.{digits, printNumber}
+use Rattle.supplement.specs.declared.Supplement.{Supplement}
+use Rattle.order.specs.Order.{some, each, among, header, directions, drug, records}
+use Rattle.order.specs.Code.Next.{follow}
+use Rattle.order.proofs.Lists.{every}
+use Rattle.field.specs.Field.{free, text, readField}
+use Rattle.field.specs.declared.Rule.{Rule}
+use Rattle.field.specs.declared.Sofar.{Sofar}
+use Rattle.row.specs.Table.{typed, kindField, codeField, rulesFrom, rulesOf, rules, counted}
+use Rattle.row.specs.Row.{fieldByField, readRow}
+use Rattle.row.specs.Code.Walk.{noRule, tableOf}
+use Rattle.row.specs.declared.Row.{Row}
+use Rattle.row.specs.declared.Rules.{Rules}
+use Rattle.record.specs.Record.{textAt}
+use Rattle.record.specs.Line.{refusal, rowRefusal, fromRow, readFields, recordNumber, readParts}
+use Rattle.record.specs.declared.Place.{Place}
+use Rattle.record.specs.declared.Refusal.{Refusal}
+use Rattle.record.specs.declared.Answer.the-variants.{Refused}
+use Rattle.held.specs.Held.{lentText}
+use Rattle.held.proofs.Numbers.{number-value}
+use Rattle.entry.specs.Entry.{own, inLent, bytesOf, cellBytes, inTen, numberIn}
+use Rattle.entry.specs.Code.Judge.{noCell, partAt, tableIn, wrongFrom, wrongTyped, textsWrong, wrongKept}
+use Rattle.entry.specs.declared.Cell.{Cell}
+use Rattle.entry.specs.declared.Parts.{Parts}
+
+-- A part of none has no bytes.
+no-bytes : (lent : List ℕ) → cellBytes lent noCell ≡ []
+unfolding bytesOf
+no-bytes lent = refl
+
+-- ---- the bytes of a part
+-- A part in characters of its own has these bytes,
+pub own-bytes : (lent f : List ℕ) → cellBytes lent (own f) ≡ f
+unfolding bytesOf
+own-bytes lent f = take-append-seam f (replicate (24 - length f) 0)
+
+-- and a text in the lent bytes those at its place.
+pub lent-bytes : (lent : List ℕ) (p : Place) → cellBytes lent (inLent lent p) ≡ lentText lent p
+unfolding bytesOf lentText textAt
+lent-bytes lent p =
+    cases (leb (p .from) (p .to)) (λ e. cases (leb (p .to) (length lent)) (λ f. simp (e, f)) (λ f. simp (e, f))) (λ e. simp e)
+
+-- ---- the record's number, as it is written and read
+-- a number is read as itself, or as none
+reads : {P : Type 0} (n : ℕ) (fs : List (List ℕ)) → (recordNumber (printNumber n ∷ fs) ≡ n → P) → (recordNumber (printNumber n ∷ fs) ≡ 0 → P) → P
+unfolding readNumber
+reads n fs f g =
+    cases (shortest (printNumber n) && (leb 1 (value 0 (printNumber n)) && leb (value 0 (printNumber n)) 999))
+    (λ e. f (rw e (number-value n))) (λ e. g (rw e))
+
+-- every record's number is read as itself
+reads-known : each (λ n. eqb (recordNumber (printNumber n ∷ [])) n) records ≡ true
+unfolding each records header directions drug readNumber shortest figures figure value printNumber digits
+reads-known = refl
+
+-- and 0 is none of them
+no-0 : among records 0 ≡ false
+unfolding some records header directions drug
+no-0 = refl
+
+-- ---- the fields of a kept record
+-- a line has one field or more,
+pushed : (b : ℕ) (fs : List (List ℕ)) → 1 ≤ length (push b fs)
+unfolding push
+pushed b [] = omega arith
+pushed b (f ∷ fs) = omega arith
+
+pub some-field : (s : List ℕ) → 1 ≤ length (split s)
+unfolding split
+some-field [] = omega arith
+some-field (b ∷ s) = cases (eqb b 0x2c) (λ e. simp e (omega arith)) (λ e. simp e (pushed b (split s)))
+
+-- after each of which but the last a comma stands
+pub join-more : (f : List ℕ) (fs : List (List ℕ)) → 1 ≤ length fs → join (f ∷ fs) ≡ f ++ 0x2c ∷ join fs
+unfolding join
+join-more f [] l = absurd (omega arith)
+join-more f (g ∷ fs) l = refl
+
+-- ---- the first wrong field
+module _ (joins : Supplement → Bool) (c : Sofar) where
+  -- the number of the first wrong field, 0 where there is none
+  unfoldable pub firstWrong : List Rule → List (List ℕ) → ℕ
+  firstWrong [] fs = 0
+  firstWrong (r ∷ rs) [] = 0
+  firstWrong (r ∷ rs) (f ∷ fs) = cond (eqb (readField joins c r f .number) 0) (firstWrong rs fs) (readField joins c r f .number)
+
+  -- is what "field by field" tells,
+  by-field : (k : ℕ) (rs : List Rule) (fs : List (List ℕ)) (w : Row) → w .number ≡ 0 → fieldByField joins c k rs fs w .number ≡ firstWrong rs fs
+  unfolding fieldByField firstWrong
+  by-field k [] fs w h = h
+  by-field k (r ∷ rs) [] w h = h
+  by-field k (r ∷ rs) (f ∷ fs) w h =
+      cases (eqb (readField joins c r f .number) 0) (λ e. simp e (by-field (k + 1) rs fs w h)) (λ e. simp e)
+
+  -- what is wrong with the fields of a record, wherever they stand
+  abbrev pub rowWrong : ℕ → List (List ℕ) → ℕ
+  rowWrong n fs = cond (counted n fs) (firstWrong (rules n fs) fs) 25
+
+  by-row : (n at : ℕ) (fs : List (List ℕ)) → readRow joins c n at fs .number ≡ rowWrong n fs
+  unfolding readRow
+  by-row n at fs = cases (counted n fs) (λ e. simp e (by-field 1 (rules n fs) fs _ refl)) (λ e. simp e)
+
+  -- and with the record
+  abbrev pub recordWrong : ℕ → List (List ℕ) → ℕ
+  recordWrong n fs = cond (eqb (follow (c .last) n) 0) (rowWrong n fs) (follow (c .last) n)
+
+  from-row : (at n from : ℕ) (fs : List (List ℕ)) (w : Row) → numberIn (fromRow at n from fs w) ≡ w .number
+  from-row at n from fs w = cases (eqb (w .number) 0) (λ e. simp e (sym (eqb-true _ _ e))) (λ e. simp e)
+
+  by-fields : (at n from : ℕ) (fs : List (List ℕ)) → numberIn (readFields joins c at n from fs) ≡ recordWrong n fs
+  unfolding readFields
+  by-fields at n from fs =
+      cases (eqb (follow (c .last) n) 0) (λ e. simp e (from-row at n from fs (readRow joins c n from fs) ∙ by-row n from fs)) (λ e. simp e)
+
+  -- The reader's number goes by the record's number and its fields alone.
+  pub by-parts : (at : ℕ) (ps : List (List ℕ)) → numberIn (readParts joins c at ps) ≡ recordWrong (recordNumber ps) (drop 1 ps)
+  unfolding readParts
+  by-parts at ps = by-fields at (recordNumber ps) _ (drop 1 ps)
+
+  -- a number that is none of theirs is told so
+  unknown : (n : ℕ) (fs : List (List ℕ)) → among records n ≡ false → recordWrong n fs ≡ 23
+  unfolding follow
+  unknown n fs e = simp e
+
+  -- so the reader says of a number and its fields what is wrong with them.
+  pub by-number : (at n : ℕ) (fs : List (List ℕ)) → numberIn (readParts joins c at (printNumber n ∷ fs)) ≡ recordWrong n fs
+  by-number at n fs =
+      let same : (m : ℕ) → m ≡ n → recordWrong m fs ≡ recordWrong n fs = λ m e. ap (λ (k : ℕ). recordWrong k fs) e in
+      by-parts at (printNumber n ∷ fs)
+      ∙ cases (among records n)
+      (λ e. same _ (eqb-true _ _ (every (λ m. eqb (recordNumber (printNumber m ∷ [])) m) records reads-known n e)))
+      (λ e. reads n fs (λ r. same _ r) (λ r. ap (λ (k : ℕ). recordWrong k fs) r ∙ unknown 0 fs no-0 ∙ sym (unknown n fs e)))
+
+  -- ---- a typed record
+  -- k fields, after i others, whose rules and parts stand in `all` and in `cs` from there on
+  wrong-from : (lent : List ℕ) (all : List Rule) (cs : List Cell) (rs : List Rule) (fs : List (List ℕ)) (i : ℕ) → length fs ≡ length rs →
+      ((j : ℕ) → j < length rs → getD all (i + j) noRule ≡ getD rs j noRule) → ((j : ℕ) → j < length fs → partAt lent cs (i + j + 1) ≡ getD fs j []) →
+      wrongFrom joins c lent all cs (length rs) i ≡ firstWrong rs fs
+  unfolding wrongFrom firstWrong
+  wrong-from lent all cs [] fs i h a b = refl
+  wrong-from lent all cs (r ∷ rs) [] i h a b = absurd (omega arith)
+  wrong-from lent all cs (r ∷ rs) (f ∷ fs) i h a b =
+      let g : getD all i noRule ≡ r = rw add-zero at (a 0 (omega arith)) in
+      let p : partAt lent cs (i + 1) ≡ f = rw add-zero at (b 0 (omega arith)) in
+      let more : wrongFrom joins c lent all cs (length rs) (i + 1) ≡ firstWrong rs fs =
+      wrong-from lent all cs rs fs (i + 1) (omega arith)
+      (λ j l. let z : i + 1 + j ≡ i + suc j = omega arith in ap (λ (k : ℕ). getD all k noRule) z ∙ a (suc j) (omega arith))
+      (λ j l. let z : i + 1 + j + 1 ≡ i + suc j + 1 = omega arith in ap (partAt lent cs) z ∙ b (suc j) (omega arith)) in
+      λ q. let n : ℕ = readField joins c (g q) (p q) .number in cond (eqb n 0) (more q) n
+
+  -- parts of which the bytes are a record's number and its fields
+  module _ (lent : List ℕ) (n : ℕ) (cs : List Cell) (fs : List (List ℕ)) (h : map (cellBytes lent) cs ≡ printNumber n ∷ fs) where
+    abbrev here : Parts
+    here = record { number = n; count = length cs; each = inTen cs }
+
+    part-is : (j : ℕ) → j < length fs → partAt lent (inTen cs) (j + 1) ≡ getD fs j []
+    part-is j l =
+        let k : length cs ≡ suc (length fs) = sym (length-map cs (cellBytes lent)) ∙ ap length h in
+        ap (cellBytes lent) (List·getD-append cs _ noCell (j + 1) (omega arith))
+        ∙ sym (List·getD-map (cellBytes lent) cs (j + 1) noCell)
+        ∙ ap₂ (λ (ps : List (List ℕ)) (p : List ℕ). getD ps (j + 1) p) h (no-bytes lent)
+        ∙ rw add-one
+
+    nth-is : (k : ℕ) → 1 ≤ k → k ≤ length fs → partAt lent (inTen cs) k ≡ getD fs (k - 1) []
+    nth-is k l m = let z : k ≡ k - 1 + 1 = omega arith in ap (partAt lent (inTen cs)) z ∙ part-is (k - 1) (omega arith)
+
+    -- What is wrong with a typed record that has as many fields as its table.
+    pub typed-wrong : (at : ℕ) → typed n ≡ true → length fs ≡ length (rulesOf n fs) → (1 ≤ kindField n) × (kindField n ≤ length fs) →
+        (1 ≤ codeField n) × (codeField n ≤ length fs) → wrongTyped joins c lent here ≡ numberIn (readParts joins c at (printNumber n ∷ fs))
+    unfolding wrongTyped rules counted
+    typed-wrong at t l k d =
+        let table : tableIn lent here ≡ tableOf (rulesOf n fs) =
+        λ i. tableOf (rulesFrom n (nth-is (kindField n) (k .0) (k .1) i) (nth-is (codeField n) (d .0) (d .1) i)) in
+        let w : wrongFrom joins c lent (tableOf (rulesOf n fs) .each) (inTen cs) (length (rulesOf n fs)) 0 ≡ firstWrong (rulesOf n fs) fs =
+        wrong-from lent (tableOf (rulesOf n fs) .each) (inTen cs) (rulesOf n fs) fs 0 l
+        (λ j b. rw zero-add (List·getD-append (rulesOf n fs) _ noRule j b)) (λ j b. rw zero-add (part-is j b)) in
+        let r : rules n fs ≡ rulesOf n fs = rw t in
+        let v : rowWrong n fs ≡ firstWrong (rulesOf n fs) fs =
+        rw (r, le-leb 1 (length fs) (omega arith), eq-eqb (length fs) (length (rulesOf n fs)) l) in
+        ap (λ (x : Rules). cond (eqb (follow (c .last) n) 0) (wrongFrom joins c lent (x .each) (inTen cs) (x .count) 0) (follow (c .last) n)) table
+        ∙ ap (λ (x : ℕ). cond (eqb (follow (c .last) n) 0) x (follow (c .last) n)) (w ∙ sym v)
+        ∙ sym (by-number at n fs)
+
+  -- ---- a kept record
+  texts-wrong : (fs : List (List ℕ)) → textsWrong joins c fs ≡ firstWrong (map (λ f. text free 200) fs) fs
+  unfolding textsWrong firstWrong
+  texts-wrong [] = refl
+  texts-wrong (f ∷ fs) = ap (λ (n : ℕ). cond (eqb (readField joins c (text free 200) f .number) 0) n (readField joins c (text free 200) f .number)) (texts-wrong fs)
+
+  kept-row : (n : ℕ) (fs : List (List ℕ)) → typed n ≡ false → 1 ≤ length fs → textsWrong joins c fs ≡ rowWrong n fs
+  unfolding rules counted
+  kept-row n fs t l =
+      let r : rules n fs ≡ map (λ f. text free 200) fs = rw t in
+      let k : length fs ≡ length (map (λ f. text free 200) fs) = sym (length-map fs (λ f. text free 200)) in
+      rw (r, le-leb 1 (length fs) l, eq-eqb (length fs) _ k) (texts-wrong fs)
+
+  -- What is wrong with a kept record, whose fields are one part.
+  pub kept-wrong : (lent : List ℕ) (at n : ℕ) (x : Cell) (fs : List (List ℕ)) → typed n ≡ false → split (cellBytes lent x) ≡ fs →
+      wrongKept joins c lent (record { number = n; count = 2; each = inTen (own (printNumber n) ∷ x ∷ []) }) ≡
+      numberIn (readParts joins c at (printNumber n ∷ fs))
+  unfolding wrongKept
+  kept-wrong lent at n x fs t e =
+      let l : 1 ≤ length fs = rw e at (some-field (cellBytes lent x)) in
+      ap (λ (w : ℕ). cond (eqb (follow (c .last) n) 0) w (follow (c .last) n)) (ap (textsWrong joins c) e ∙ kept-row n fs t l)
+      ∙ sym (by-number at n fs)
+
+  -- ---- refusals
+  -- The number of a refusal does not go by the place,
+  pub anywhere : (at : ℕ) (ps : List (List ℕ)) → numberIn (readParts joins c at ps) ≡ numberIn (readParts joins c 0 ps)
+  anywhere at ps = by-parts at ps ∙ sym (by-parts 0 ps)
+
+  some-fields : (at n from : ℕ) (fs : List (List ℕ)) (f : Refusal) → readFields joins c at n from fs ≡ Refused f → f .number ≡ 0 → ⊥
+  unfolding readFields
+  some-fields at n from fs f h z =
+      cases (eqb (follow (c .last) n) 0)
+      (λ e. cases (eqb (readRow joins c n from fs .number) 0)
+      (λ d. let k = simp (e, d) at h in let o : _≡_ {A = ℕ} 0 1 = cc in omega arith)
+      (λ d. let k : Refused (rowRefusal at (readRow joins c n from fs)) ≡ Refused f = simp (e, d) at h in
+      let o : rowRefusal at (readRow joins c n from fs) ≡ f = cc in
+      eqb-false _ _ d (ap (λ (r : Refusal). r .number) o ∙ z)))
+      (λ e. let k : Refused (refusal (follow (c .last) n) at) ≡ Refused f = simp e at h in
+      let o : refusal (follow (c .last) n) at ≡ f = cc in
+      eqb-false _ _ e (ap (λ (r : Refusal). r .number) o ∙ z))
+
+  -- and is never 0.
+  pub refused-some : (at : ℕ) (ps : List (List ℕ)) (f : Refusal) → readParts joins c at ps ≡ Refused f → f .number ≡ 0 → ⊥
+  unfolding readParts
+  refused-some at ps f h z = some-fields at (recordNumber ps) _ (drop 1 ps) f h z

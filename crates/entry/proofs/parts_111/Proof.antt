@@ -1,0 +1,41 @@
+-- Part by part.
+use borrow.Author.Needs.{needs}
+use Rattle.entry.proofs.parts_111.Statement.{statement}
+use Rattle.entry.proofs.parts_111.Tie as tie
+
+empty-requires : tie.Need-empty-requires
+empty-requires c κs = search needs
+
+number-requires : tie.Need-number-requires
+number-requires c κs = search needs
+
+number-requires-2 : tie.Need-number-requires-2
+number-requires-2 c κs = search needs
+
+number-requires-3 : tie.Need-number-requires-3
+number-requires-3 c κs = search needs
+
+usage-code-requires : tie.Need-usage-code-requires
+usage-code-requires c κs = search needs
+
+text-in-requires : tie.Need-text-in-requires
+text-in-requires c κs = search needs
+
+optional-requires : tie.Need-optional-requires
+optional-requires c κs = search needs
+
+returns : tie.Need-returns
+returns c = cc
+
+pub parts-111-spec : {M : Type 1} → statement M
+parts-111-spec =
+    tie.close
+    (tie.spec
+    empty-requires
+    number-requires
+    number-requires-2
+    number-requires-3
+    usage-code-requires
+    text-in-requires
+    optional-requires
+    returns)

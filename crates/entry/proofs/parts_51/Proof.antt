@@ -1,0 +1,23 @@
+-- Part by part.
+use borrow.Author.Needs.{needs}
+use Rattle.entry.proofs.parts_51.Statement.{statement}
+use Rattle.entry.proofs.parts_51.Tie as tie
+
+empty-requires : tie.Need-empty-requires
+empty-requires c κs = search needs
+
+number-requires : tie.Need-number-requires
+number-requires c κs = search needs
+
+day-requires : tie.Need-day-requires
+day-requires c κs = search needs
+
+own-requires : tie.Need-own-requires
+own-requires c κs = search needs
+
+returns : tie.Need-returns
+returns c = cc
+
+pub parts-51-spec : {M : Type 1} → statement M
+parts-51-spec =
+    tie.close (tie.spec empty-requires number-requires day-requires own-requires returns)

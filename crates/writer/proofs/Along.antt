@@ -1,0 +1,86 @@
+-- A line put byte by byte and part by part, as the loops go along it.
+-- Assumes nothing.
+use Prim.Native.Nat.{ℕ, suc, _+_, _-_, _≤_, _<_}
+use mathlib.Core.Path.{_≡_, _∙_, ap}
+use mathlib.Core.Bool.{false}
+use mathlib.Core.List.{List, [], _∷_, _++_}
+use native.Mathlib.Omega.{arith}
+use borrow.Author.Tests.{leb-true, leb-false, le-leb, lt-leb}
+use lib.Dec.{leb}
+use lib.ListN.{length, getD, set, drop, length-append, drop-of-length-le}
+use lib.Seq.{sets, drop-cons}
+use Rattle.cells.proofs.Split.{split as cases}
+use Rattle.entry.specs.Code.Judge.{partAt}
+use Rattle.entry.specs.declared.Cell.{Cell}
+use Rattle.writer.specs.Code.Put.{separatorOf, lineFrom, fitsFrom}
+
+-- ---- bytes
+-- One byte more, and those after it.
+pub copy-next : (out s : List ℕ) (at i : ℕ) → i < length s → sets (set out (at + i) (getD s i 0)) (at + (i + 1)) (drop (i + 1) s) ≡ sets out (at + i) (drop i s)
+copy-next out s at i h =
+    let z : at + (i + 1) ≡ at + i + 1 = omega arith in
+    let y : i + 1 ≡ suc i = omega arith in
+    let x : at + i + 1 ≡ suc (at + i) = omega arith in
+    rw (z, x, y, drop-cons s i 0 h)
+
+-- None is left.
+pub copy-end : (out s : List ℕ) (at i : ℕ) → length s ≤ i → sets out (at + i) (drop i s) ≡ out
+copy-end out s at i h = rw (drop-of-length-le s {i = i} h)
+
+-- Bytes after others.
+pub sets-more : (out p q : List ℕ) (at : ℕ) → sets out at (p ++ q) ≡ sets (sets out at p) (at + length p) q
+sets-more out [] q at = let z : at + 0 ≡ at = omega arith in rw z
+sets-more out (b ∷ p) q at =
+    let z : suc at + length p ≡ at + suc (length p) = omega arith in
+    sets-more (set out at b) p q (suc at) ∙ rw z
+
+-- ---- parts
+module _ (lent : List ℕ) (cs : List Cell) (count i : ℕ) (h : i < count) where
+  one-more : count - i ≡ suc (count - (i + 1))
+  one-more = omega arith
+
+  all-of : i + suc (count - (i + 1)) ≡ count
+  all-of = omega arith
+
+  -- the next part, the byte after it, and the others
+  pub next-part : lineFrom lent cs (count - i) i ≡ partAt lent cs i ++ separatorOf i count ∷ lineFrom lent cs (count - (i + 1)) (i + 1)
+  unfolding lineFrom
+  next-part = rw (one-more, all-of)
+
+  size : length (lineFrom lent cs (count - i) i) ≡ length (partAt lent cs i) + suc (length (lineFrom lent cs (count - (i + 1)) (i + 1)))
+  size = ap length next-part ∙ length-append (partAt lent cs i) (separatorOf i count ∷ lineFrom lent cs (count - (i + 1)) (i + 1))
+
+  -- a part that has no room,
+  pub no-room : (left : ℕ) → left ≤ length (partAt lent cs i) → fitsFrom lent cs (count - i) i left ≡ false
+  unfolding fitsFrom
+  no-room left l = lt-leb (length (lineFrom lent cs (count - i) i)) left (omega (arith, size))
+
+  -- and one that has
+  pub has-room : (left : ℕ) → length (partAt lent cs i) < left →
+      fitsFrom lent cs (count - i) i left ≡ fitsFrom lent cs (count - (i + 1)) (i + 1) (left - length (partAt lent cs i) - 1)
+  unfolding fitsFrom
+  has-room left l =
+      let n : ℕ = length (lineFrom lent cs (count - (i + 1)) (i + 1)) in
+      cases (leb n (left - length (partAt lent cs i) - 1))
+      (λ e. let k : n ≤ left - length (partAt lent cs i) - 1 = leb-true _ _ e in
+      rw e (le-leb (length (lineFrom lent cs (count - i) i)) left (omega (arith, size))))
+      (λ e. let k : left - length (partAt lent cs i) - 1 < n = leb-false _ _ e in
+      rw e (lt-leb (length (lineFrom lent cs (count - i) i)) left (omega (arith, size))))
+
+  -- the part is put, and the byte after it
+  pub part-put : (out : List ℕ) (to : ℕ) →
+      sets out to (lineFrom lent cs (count - i) i)
+      ≡ sets (set (sets out to (partAt lent cs i)) (to + length (partAt lent cs i)) (separatorOf i count)) (to + length (partAt lent cs i) + 1)
+      (lineFrom lent cs (count - (i + 1)) (i + 1))
+  part-put out to =
+      let z : to + length (partAt lent cs i) + 1 ≡ suc (to + length (partAt lent cs i)) = omega arith in
+      rw (next-part, z) (sets-more out (partAt lent cs i) (separatorOf i count ∷ lineFrom lent cs (count - (i + 1)) (i + 1)) to)
+
+  -- what is left of the line
+  pub part-size : length (lineFrom lent cs (count - i) i) ≡ length (partAt lent cs i) + 1 + length (lineFrom lent cs (count - (i + 1)) (i + 1))
+  part-size = omega (arith, size)
+
+-- After the last part only the LF is left.
+pub last-byte : (lent : List ℕ) (cs : List Cell) (count i : ℕ) → count ≤ i → lineFrom lent cs (count - i) i ≡ 0x0a ∷ []
+unfolding lineFrom
+last-byte lent cs count i h = let z : count - i ≡ 0 = omega arith in rw z

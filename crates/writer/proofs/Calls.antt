@@ -1,0 +1,124 @@
+-- What each call answers, by the tests that the code makes.
+-- Assumes nothing.
+use Prim.Native.Nat.{ℕ, _+_, _≤_, _<_, min}
+use mathlib.Core.Path.{_≡_, _∙_, sym, ap, ap₂}
+use mathlib.Core.Bool.{Bool, true, false, cond}
+use mathlib.Core.List.{List, [], _∷_}
+use native.Mathlib.Omega.{arith}
+use borrow.Author.Tests.{eq-eqb, ne-eqb, leb-true, le-leb, lt-leb}
+use lib.Dec.{eqb, leb}
+use lib.ListN.{length, set, length-append}
+use lib.Seq.{sets}
+use Rattle.cells.specs.Text.{bytes}
+use Rattle.supplement.specs.declared.Supplement.{Supplement}
+use Rattle.order.specs.Code.Next.{closes}
+use Rattle.schedule.specs.Code.Kept.{mayJoin}
+use Rattle.record.specs.Record.{start, after}
+use Rattle.record.specs.Line.{readParts}
+use Rattle.record.specs.declared.Answer.{Answer}
+use Rattle.record.specs.declared.Record.{Record}
+use Rattle.held.specs.Held.{lentHeld, parts, printRecord}
+use Rattle.entry.specs.Entry.{cells, numberIn, entryOf}
+use Rattle.entry.specs.declared.Entry.{Entry}
+use Rattle.entry.proofs.Laws.{few, anywhere, refused-some}
+use Rattle.writer.specs.Writer.{refuses, putAt, room, ended, putLine, onAnswer, unopened, openBuffer, putRecord, closeBuffer}
+use Rattle.writer.specs.Code.Put.{lineOf, roomFor}
+use Rattle.writer.specs.declared.State.{State}
+use Rattle.writer.proofs.Line.{on-number, line-is, room-is, put-is}
+use Rattle.writer.proofs.WriteBack.{done}
+
+-- ---- opening
+pub open-short : (out : List ℕ) → min (length out) 16384 < 9 → refuses out unopened 33 0 ≡ openBuffer out
+unfolding openBuffer room bytes
+open-short out h = let e : leb (0 + (6 + 3)) (min (length out) 16384) ≡ false = lt-leb 9 (min (length out) 16384) h in rw e
+
+pub open-put : (out : List ℕ) → 9 ≤ min (length out) 16384 → done 8 false start (sets out 0 (ended (bytes "JAHIS5"))) ≡ openBuffer out
+unfolding openBuffer room bytes
+open-put out h =
+    let e : leb (0 + (6 + 3)) (min (length out) 16384) ≡ true = le-leb 9 (min (length out) 16384) h in
+    rw (e, put-is out 0 (ended (bytes "JAHIS5")) (omega arith))
+
+-- ---- closing
+module _ (out : List ℕ) (t : State) where
+  pub close-closed : t .closed ≡ true → refuses out t 34 24 ≡ closeBuffer out t
+  unfolding closeBuffer
+  close-closed h = rw h
+
+  module _ (o : t .closed ≡ false) where
+    pub close-early : closes (t .sofar .last) ≡ false → refuses out t 34 32 ≡ closeBuffer out t
+    unfolding closeBuffer
+    close-early h = rw (o, h)
+
+    pub close-full : closes (t .sofar .last) ≡ true → min (length out) 16384 ≤ t .at → refuses out t 33 0 ≡ closeBuffer out t
+    unfolding closeBuffer
+    close-full h l = rw (o, h, lt-leb (t .at + 1) (min (length out) 16384) (omega arith))
+
+    pub close-put : closes (t .sofar .last) ≡ true → t .at < min (length out) 16384 → done (t .at + 1) true (t .sofar) (set out (t .at) 0x1a) ≡ closeBuffer out t
+    unfolding closeBuffer
+    close-put h l =
+        rw (o, h, le-leb (t .at + 1) (min (length out) 16384) (omega arith))
+        (ap (done (t .at + 1) true (t .sofar)) (put-is out (t .at) (0x1a ∷ []) (omega arith)))
+
+-- ---- a record
+module _ (out : List ℕ) (t : State) (r : Record) (lent : List ℕ) where
+  pub put-closed : t .closed ≡ true → refuses out t 34 24 ≡ putRecord out t r lent
+  unfolding putRecord
+  put-closed h = rw h
+
+  module _ (o : t .closed ≡ false) (e : Entry) (q : e ≡ entryOf (mayJoin (t .sofar .month) (t .sofar .schedule)) (t .sofar) lent r) where
+    abbrev joins : Supplement → Bool
+    joins = mayJoin (t .sofar .month) (t .sofar .schedule)
+
+    abbrev line : List ℕ
+    line = printRecord (lentHeld lent r)
+
+    pub count-most : e .count ≤ 10
+    unfolding entryOf
+    count-most = let k : e .count ≡ length (cells lent r) = ap (λ (x : Entry). x .count) q in omega (arith, few lent r .1)
+
+    same-number : numberIn (readParts joins (t .sofar) (t .at) (parts (lentHeld lent r))) ≡ e .wrong
+    unfolding entryOf
+    same-number = anywhere joins (t .sofar) (t .at) (parts (lentHeld lent r)) ∙ sym (ap (λ (x : Entry). x .wrong) q)
+
+    -- by the number with which the reader would refuse it
+    by-wrong : putRecord out t r lent ≡ cond (eqb (e .wrong) 0) (putLine out t line (after (t .sofar) r)) (refuses out t 34 (e .wrong))
+    unfolding putRecord
+    by-wrong =
+        let a : Answer = readParts joins (t .sofar) (t .at) (parts (lentHeld lent r)) in
+        ap (λ (b : Bool). cond b (refuses out t 34 24) (onAnswer out t a line (after (t .sofar) r))) o
+        ∙ on-number out t a line (after (t .sofar) r) (refused-some joins (t .sofar) (t .at) (parts (lentHeld lent r)))
+        ∙ ap (λ (n : ℕ). cond (eqb n 0) (putLine out t line (after (t .sofar) r)) (refuses out t 34 n)) same-number
+
+    pub put-wrong : (e .wrong ≡ 0 → ⊥) → refuses out t 34 (e .wrong) ≡ putRecord out t r lent
+    put-wrong h = let z : eqb (e .wrong) 0 ≡ false = ne-eqb (e .wrong) 0 h in sym (by-wrong ∙ rw z)
+
+    -- the entry's line is the record's
+    same-line : lineOf lent e ≡ ended line
+    same-line = ap (lineOf lent) q ∙ line-is joins (t .sofar) lent r
+
+    same-room : roomFor (length out) (t .at) lent e ≡ room out (t .at) line
+    same-room = room-is out lent (t .at) e line same-line
+
+    module _ (w : e .wrong ≡ 0) where
+      right : putRecord out t r lent ≡ putLine out t line (after (t .sofar) r)
+      right = let z : eqb (e .wrong) 0 ≡ true = eq-eqb (e .wrong) 0 w in by-wrong ∙ rw z
+
+      pub put-full : roomFor (length out) (t .at) lent e ≡ false → refuses out t 33 0 ≡ putRecord out t r lent
+      put-full h = let z : room out (t .at) line ≡ false = sym same-room ∙ h in sym (right ∙ rw z)
+
+      module _ (h : roomFor (length out) (t .at) lent e ≡ true) where
+        long : length (lineOf lent e) ≡ length line + 2
+        long = ap length same-line ∙ length-append line (0x0d ∷ 0x0a ∷ [])
+
+        pub put-fits : t .at + length (lineOf lent e) ≤ length out
+        unfolding room
+        put-fits =
+            let z : t .at + (length line + 3) ≤ min (length out) 16384 = leb-true _ _ (sym same-room ∙ h) in
+            omega (arith, z, long)
+
+        pub put-put : done (t .at + length (lineOf lent e)) false (after (t .sofar) r) (sets out (t .at) (lineOf lent e)) ≡ putRecord out t r lent
+        put-put =
+            let z : room out (t .at) line ≡ true = sym same-room ∙ h in
+            ap₂ (λ (n : ℕ) (b : List ℕ). done (t .at + n) false (after (t .sofar) r) b) long
+            (put-is out (t .at) (lineOf lent e) put-fits ∙ ap (putAt out (t .at)) same-line)
+            ∙ sym (right ∙ rw z)
