@@ -1,0 +1,5 @@
+pub mod One
+pub mod Numbers
+pub mod Lent
+pub mod Taken
+pub mod Blank
