@@ -1,5 +1,9 @@
 // Checks every sheet whose name stands on standard input, a name a line, and prints each name with the line that tells what the sheet is read as.
+// A sheet that is taken is written again too, and a line of its own tells whether that gave the same bytes.
 use libc::STDOUT_FILENO;
+use reader::Checked;
+ghost use mathlib.Core.Path.{_≡_};
+ghost use mathlib.Core.Bool.{true};
 ghost use Prim.Native.Nat.{_≤_, _<_};
 ghost use lib.ListN.{length};
 
@@ -62,5 +66,45 @@ fn check_into(room: &mut [u8; 16385], fd: i32) {
 
 fn check_from(room: &mut [u8], fd: i32) {
     let n = io::read_full(fd, room);
-    report::sheet(&room[0..n]);
+    check_sheet(&room[0..n]);
+}
+
+fn check_sheet(s: &[u8]) {
+    match report::sheet(s) {
+        Checked::Records(_) => {
+            let mut again = [0u8; 16384];
+            write_into(s, &mut again);
+        }
+        Checked::Refused(_) => {}
+    }
+}
+
+fn write_into(s: &[u8], again: &mut [u8; 16384]) {
+    write_again(s, again);
+}
+
+fn write_again(s: &[u8], again: &mut [u8]) {
+    let n = rewriter::rewrite(s, again);
+    if same(s, &again[0..n]) {
+        io::write_all(STDOUT_FILENO, b"  written back\n");
+        return;
+    }
+    io::write_all(STDOUT_FILENO, b"  written differently\n");
+}
+
+// Are these the same bytes?
+fn same(a: &[u8], b: &[u8]) -> bool
+    ensures { λ r. ⌜ (r ≡ true → now (a .entry) ≡ now (b .entry)) ⌝ }
+{
+    if a.len() != b.len() {
+        return false;
+    }
+    let mut i: usize = 0;
+    while i < a.len() {
+        if a[i] != b[i] {
+            return false;
+        }
+        i += 1;
+    }
+    true
 }
