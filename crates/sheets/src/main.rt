@@ -1,5 +1,6 @@
 // Checks every sheet whose name stands on standard input, a name a line, and prints each name with the line that tells what the sheet is read as.
-// A sheet that is taken is written again too, and a line of its own tells whether that gave the same bytes.
+// A sheet that is taken is written again too, and a line of its own tells whether that gave the same bytes. After the word `labels` a name
+// asks for the sheet's bag labels instead.
 use libc::STDOUT_FILENO;
 use reader::Checked;
 ghost use mathlib.Core.Path.{_≡_};
@@ -41,32 +42,61 @@ fn check_each(names: &[u8]) {
     let mut at: usize = 0;
     while at < names.len() {
         let end = name_end(names, at);
-        check_file(&names[at..end]);
+        tell_line(&names[at..end]);
         at = end + 1;
     }
 }
 
+// Does a line begin with the word `labels` and a space?
+fn asks_labels(s: &[u8]) -> bool
+    ensures { λ r. ⌜ (r ≡ true → 7 ≤ length (now (s .entry))) ⌝ }
+{
+    if s.len() < 7 {
+        return false;
+    }
+    (s[0] == b'l')
+        & ((s[1] == b'a')
+            & ((s[2] == b'b')
+                & ((s[3] == b'e') & ((s[4] == b'l') & ((s[5] == b's') & (s[6] == b' '))))))
+}
+
+fn tell_line(line: &[u8]) {
+    if asks_labels(line) {
+        return tell_file(&line[7..line.len()], true);
+    }
+    tell_file(line, false)
+}
+
 // A sheet that can't be opened is told as one, and never passes for any answer.
-fn check_file(name: &[u8]) {
+fn tell_file(name: &[u8], labels: bool) {
     io::write_all(STDOUT_FILENO, name);
     let fd = os::open_read(name);
     if fd < 0 {
         io::write_all(STDOUT_FILENO, b" cannot be opened\n");
         return;
     }
-    io::write_all(STDOUT_FILENO, b" ");
     let mut room = [0u8; 16385];
-    check_into(&mut room, fd);
+    tell_into(&mut room, fd, labels);
     libc::close(fd);
 }
 
-fn check_into(room: &mut [u8; 16385], fd: i32) {
-    check_from(room, fd);
+fn tell_into(room: &mut [u8; 16385], fd: i32, labels: bool) {
+    tell_from(room, fd, labels);
 }
 
-fn check_from(room: &mut [u8], fd: i32) {
+fn tell_from(room: &mut [u8], fd: i32, labels: bool) {
     let n = io::read_full(fd, room);
-    check_sheet(&room[0..n]);
+    tell_sheet(&room[0..n], labels);
+}
+
+fn tell_sheet(s: &[u8], labels: bool) {
+    if labels {
+        io::write_all(STDOUT_FILENO, b"\n");
+        label::sheet(s);
+        return;
+    }
+    io::write_all(STDOUT_FILENO, b" ");
+    check_sheet(s)
 }
 
 fn check_sheet(s: &[u8]) {

@@ -17,17 +17,17 @@ loop-holds c = search needs
 name-end-requires : tie.Need-name-end-requires Inv-loop μ-loop
 name-end-requires c κs = search needs
 
-sub-check-file : tie.Need-sub-check-file Inv-loop μ-loop
-sub-check-file c = search needs
+sub-tell-line : tie.Need-sub-tell-line Inv-loop μ-loop
+sub-tell-line c = search needs
 
-part-check-file-start : tie.Need-part-check-file-start Inv-loop μ-loop
-part-check-file-start c = search needs
+part-tell-line-start : tie.Need-part-tell-line-start Inv-loop μ-loop
+part-tell-line-start c = search needs
 
-part-check-file-end : tie.Need-part-check-file-end Inv-loop μ-loop
-part-check-file-end c = search needs
+part-tell-line-end : tie.Need-part-tell-line-end Inv-loop μ-loop
+part-tell-line-end c = search needs
 
-check-file-requires : tie.Need-check-file-requires Inv-loop μ-loop
-check-file-requires c κs = search needs
+tell-line-requires : tie.Need-tell-line-requires Inv-loop μ-loop
+tell-line-requires c κs = search needs
 
 add-at : tie.Need-add-at Inv-loop μ-loop
 add-at c = search needs
@@ -49,10 +49,10 @@ check-each-spec =
     μ-loop
     loop-holds
     name-end-requires
-    sub-check-file
-    part-check-file-start
-    part-check-file-end
-    check-file-requires
+    sub-tell-line
+    part-tell-line-start
+    part-tell-line-end
+    tell-line-requires
     add-at
     loop-less
     loop-again
