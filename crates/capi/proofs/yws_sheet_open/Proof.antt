@@ -1,0 +1,17 @@
+-- By the calls.
+use mathlib.Core.Path.{_∙_}
+use borrow.Author.Needs.{needs}
+use Rattle.capi.proofs.yws_sheet_open.Statement.{statement}
+use Rattle.capi.proofs.yws_sheet_open.Tie as tie
+
+open-requires : tie.Need-open-requires
+open-requires c κs = search needs
+
+reader-numbers-requires : tie.Need-reader-numbers-requires
+reader-numbers-requires c κs = search needs
+
+returns : tie.Need-returns
+returns c = record { returns = cc; leaves = cc; holds = c .reader-numbers .ensures .1 ∙ c .before .«open» .ensures }
+
+pub yws-sheet-open-spec : {M : Type 1} → statement M
+yws-sheet-open-spec = tie.close (tie.spec open-requires reader-numbers-requires returns)

@@ -1,0 +1,53 @@
+-- By the calls.
+use mathlib.Core.Path.{_≡_, _∙_, ap}
+use Rattle.writer.specs.Writer.{Left, closeBuffer}
+use Rattle.plain.specs.States.{writerNumbers, writerOf}
+use Rattle.told.specs.Answers.{unless0}
+use borrow.Author.Tests.{eq-eqb}
+use borrow.Author.Needs.{needs}
+use Rattle.capi.proofs.yws_writer_close.Statement.{statement}
+use Rattle.capi.proofs.yws_writer_close.Tie as tie
+
+writer-state-requires : tie.Need-writer-state-requires
+writer-state-requires c κs = search needs
+
+close-requires : tie.Need-close-requires
+close-requires c κs = search needs
+
+writer-numbers-requires : tie.Need-writer-numbers-requires
+writer-numbers-requires c κs = search needs
+
+state-after-requires : tie.Need-state-after-requires
+state-after-requires c κs = search needs
+
+cast-own : tie.Need-cast-own
+cast-own c = search needs
+
+same-length : tie.Need-same-length
+same-length c = search needs
+
+returns : tie.Need-returns
+unfolding unless0
+returns c =
+    let a = c .before .before .before .before .before .before .before .before .before .before .before .before .before .args in
+    let w = c .before .before .before .before .before .before .before .close in
+    let e : record { put = w .result; buffer = w .last .0 } ≡ closeBuffer (a .out .now) (writerOf (a .state .now)) = cc in
+    record {
+      returns = ap (λ (l : Left). l .put .number) e;
+      tells = ap (λ (l : Left). l .put .own) e;
+      writes = ap (λ (l : Left). l .buffer) e;
+      moves = cc (ap (λ (l : Left). unless0 (l .put .number) (writerNumbers (l .put .state)) (a .state .now)) e);
+      holds = λ z. rw (c .before .state-after .ensures, eq-eqb (w .result .number) 0 z) (c .before .before .before .writer-numbers .ensures .1 ∙ ap (λ (l : Left). l .put .state) e);
+    }
+
+pub yws-writer-close-spec : {M : Type 1} → statement M
+yws-writer-close-spec =
+    tie.close
+    (tie.spec
+    writer-state-requires
+    close-requires
+    writer-numbers-requires
+    state-after-requires
+    cast-own
+    same-length
+    returns)

@@ -1,0 +1,208 @@
+// The public operations for C and Rust, on numbers and bytes. include/yawsimbel.h has the layout of each array. A refusal leaves every lent
+// array as it was, but for the one that says where and why.
+use days::DaySet;
+ghost use Rattle.cells.specs.Writing.{Writes};
+ghost use Rattle.usage.specs.Usage.{readUsage};
+ghost use Rattle.usage.specs.declared.Instruction.{Instruction};
+ghost use Rattle.supplement.specs.Supplement.{readSupplement};
+ghost use Rattle.supplement.specs.declared.Supplement.{Supplement};
+ghost use Rattle.days.specs.Run.{readRun};
+ghost use Rattle.reader.specs.File.{checkFile};
+ghost use Rattle.reader.specs.Reader.{openFile, nextRecord};
+ghost use Rattle.writer.specs.Writer.{openBuffer, putRecord, closeBuffer};
+ghost use Rattle.plain.specs.Codes.{usageNumbers, instructionOf, supplementNumbers, supplementOf};
+ghost use Rattle.plain.specs.Records.{recordOf};
+ghost use Rattle.plain.specs.States.{readerOf, writerOf};
+ghost use Rattle.told.specs.Answers.{makeStyled};
+ghost use Rattle.capi.specs.Calls.{Reads, ReadsRun, TellsSet, Checks, Opens, Steps, OpensBuffer, Puts, Makes};
+
+// ---- usage codes
+
+// Reads a usage code.
+#[no_mangle]
+pub extern "C" fn yws_usage_read(code: &[u8], numbers: &mut [u64; 25], place: &mut u64) -> u8
+    ensures { λ r. ⌜ Reads Instruction usageNumbers (readUsage (now (code .entry))) (now (numbers .entry)) r (now (place .exit)) (now (numbers .exit)) ⌝ }
+{
+    let u = usage::read(code);
+    *place = told::usage_place(u);
+    *numbers = told::usage_after(u, *numbers);
+    told::usage_number(u)
+}
+
+// Writes a usage code.
+#[no_mangle]
+pub extern "C" fn yws_usage_write(numbers: &[u64; 25], code: &mut [u8; 16]) -> u8
+    ensures { λ r. ⌜ Writes Instruction readUsage (now (code .entry)) (instructionOf (now (numbers .entry))) r (now (code .exit)) ⌝ }
+{
+    let i = plain::instruction(numbers);
+    let w = usage_writer::write(i);
+    let written = w.code;
+    *code = told::sixteen_after(w.number, written, *code);
+    w.number
+}
+
+// ---- supplementary codes
+
+// Reads a supplementary code.
+#[no_mangle]
+pub extern "C" fn yws_supplement_read(code: &[u8], numbers: &mut [u64; 22], place: &mut u64) -> u8
+    ensures { λ r. ⌜ Reads Supplement supplementNumbers (readSupplement (now (code .entry))) (now (numbers .entry)) r (now (place .exit)) (now (numbers .exit)) ⌝ }
+{
+    let u = supplement::read(code);
+    *place = told::supplement_place(u);
+    *numbers = told::supplement_after(u, *numbers);
+    told::supplement_number(u)
+}
+
+// Writes a supplementary code.
+#[no_mangle]
+pub extern "C" fn yws_supplement_write(numbers: &[u64; 22], code: &mut [u8; 8]) -> u8
+    ensures { λ r. ⌜ Writes Supplement readSupplement (now (code .entry)) (supplementOf (now (numbers .entry))) r (now (code .exit)) ⌝ }
+{
+    let x = plain::supplement(numbers);
+    let w = supplement_writer::write(x);
+    let written = w.code;
+    *code = told::eight_after(w.number, written, *code);
+    w.number
+}
+
+// ---- runs and sets of days
+
+// Reads a run of date codes.
+#[no_mangle]
+pub extern "C" fn yws_run_read(
+    issue: u8,
+    codes: &[u8],
+    days: &mut [u32; 13],
+    refusal: &mut [u64; 2],
+) -> u8
+    ensures { λ r. ⌜ ReadsRun (readRun issue (now (codes .entry))) (now (days .entry)) r (now (refusal .exit)) (now (days .exit)) ⌝ }
+{
+    let run = days::read_run(issue, codes);
+    let set = run.days;
+    let cells = set.cells;
+    *refusal = [run.place as u64, run.code as u64];
+    *days = told::days_after(run.number, cells, *days);
+    run.number
+}
+
+// Writes the run for a set of days.
+#[no_mangle]
+pub extern "C" fn yws_set_write(issue: u8, days: &[u32; 13], out: &mut [u8], count: &mut u64) -> u8
+    ensures { λ r. ⌜ TellsSet issue (now (days .entry)) (now (out .entry)) (now (out .exit)) r (now (count .entry)) (now (count .exit)) ⌝ }
+{
+    let cells = *days;
+    let w = days::write_run(issue, DaySet { cells: cells }, out);
+    *count = told::count_after(w, *count);
+    told::wrote_number(w)
+}
+
+// ---- sheets, read
+
+// Checks a sheet.
+#[no_mangle]
+pub extern "C" fn yws_sheet_check(file: &[u8], records: &mut u64, refusal: &mut [u64; 4]) -> u8
+    ensures { λ r. ⌜ Checks (checkFile (now (file .entry))) (now (records .entry)) r (now (refusal .exit)) (now (records .exit)) ⌝ }
+{
+    let r = reader::check(file);
+    *records = told::checked_records(r, *records);
+    *refusal = told::checked_refusal(r);
+    told::checked_number(r)
+}
+
+// Opens a sheet to read.
+#[no_mangle]
+pub extern "C" fn yws_sheet_open(file: &[u8], state: &mut [u64; 11]) -> u8
+    ensures { λ r. ⌜ Opens (openFile (now (file .entry))) r (now (state .exit)) ⌝ }
+{
+    let t = reader::open(file);
+    *state = plain::reader_numbers(t);
+    t.number
+}
+
+// The next record of a sheet.
+#[no_mangle]
+pub extern "C" fn yws_sheet_next(
+    file: &[u8],
+    state: &mut [u64; 11],
+    numbers: &mut [u64; 31],
+    refusal: &mut [u64; 4],
+) -> u8
+    ensures { λ r. ⌜ Steps (nextRecord (now (file .entry)) (readerOf (now (state .entry)))) (now (state .entry)) (now (numbers .entry)) r (now (refusal .exit)) (now (state .exit)) (now (numbers .exit)) ⌝ }
+{
+    let step = reader::next(file, plain::reader_state(state));
+    let h = step.next;
+    let t = step.state;
+    *state = told::handed_state(h, plain::reader_numbers(t), *state);
+    *numbers = told::handed_record(h, *numbers);
+    *refusal = told::handed_refusal(h);
+    told::handed_number(h)
+}
+
+// ---- sheets, written
+
+// Opens a buffer to write a sheet.
+#[no_mangle]
+pub extern "C" fn yws_writer_open(out: &mut [u8], state: &mut [u64; 11]) -> u8
+    ensures { λ r. ⌜ OpensBuffer (openBuffer (now (out .entry))) r (now (out .exit)) (now (state .exit)) ⌝ }
+{
+    let w = writer::open(out);
+    let t = w.state;
+    *state = plain::writer_numbers(t);
+    w.number
+}
+
+// Puts a record.
+#[no_mangle]
+pub extern "C" fn yws_writer_put(
+    out: &mut [u8],
+    state: &mut [u64; 11],
+    numbers: &[u64; 31],
+    lent: &[u8],
+    own: &mut u64,
+) -> u8
+    ensures { λ r. ⌜ Puts (putRecord (now (out .entry)) (writerOf (now (state .entry))) (recordOf (now (numbers .entry))) (now (lent .entry))) (now (state .entry)) r (now (own .exit)) (now (out .exit)) (now (state .exit)) ⌝ }
+{
+    let w = writer::put(
+        out,
+        plain::writer_state(state),
+        plain::record(numbers),
+        lent,
+    );
+    let t = w.state;
+    *state = told::state_after(w.number, plain::writer_numbers(t), *state);
+    *own = w.own as u64;
+    w.number
+}
+
+// Writes the end.
+#[no_mangle]
+pub extern "C" fn yws_writer_close(out: &mut [u8], state: &mut [u64; 11], own: &mut u64) -> u8
+    ensures { λ r. ⌜ Puts (closeBuffer (now (out .entry)) (writerOf (now (state .entry)))) (now (state .entry)) r (now (own .exit)) (now (out .exit)) (now (state .exit)) ⌝ }
+{
+    let w = writer::close(out, plain::writer_state(state));
+    let t = w.state;
+    *state = told::state_after(w.number, plain::writer_numbers(t), *state);
+    *own = w.own as u64;
+    w.number
+}
+
+// ---- dates
+
+// Makes a date.
+#[no_mangle]
+pub extern "C" fn yws_date_make(
+    year: u16,
+    month: u8,
+    day: u8,
+    style: u8,
+    numbers: &mut [u64; 4],
+    text: &mut [u8; 8],
+) -> u8
+    ensures { λ r. ⌜ Makes (makeStyled year month day style) (now (numbers .entry)) (now (text .entry)) r (now (numbers .exit)) (now (text .exit)) ⌝ }
+{
+    let m = told::made(year, month, day, style);
+    *numbers = told::made_numbers(m, *numbers);
+    *text = told::made_text(m, *text);
+    told::made_number(m)
+}

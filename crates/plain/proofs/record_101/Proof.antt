@@ -1,0 +1,24 @@
+-- Number by number.
+use borrow.Author.Needs.{needs}
+use Rattle.plain.proofs.record_101.Statement.{statement}
+use Rattle.plain.proofs.record_101.Tie as tie
+
+half-at-requires : tie.Need-half-at-requires
+half-at-requires c κs = search needs
+
+half-at-requires-2 : tie.Need-half-at-requires-2
+half-at-requires-2 c κs = search needs
+
+place-at-requires : tie.Need-place-at-requires
+place-at-requires c κs = search needs
+
+half-at-requires-3 : tie.Need-half-at-requires-3
+half-at-requires-3 c κs = search needs
+
+returns : tie.Need-returns
+returns c = cc
+
+pub record-101-spec : {M : Type 1} → statement M
+record-101-spec =
+    tie.close
+    (tie.spec half-at-requires half-at-requires-2 place-at-requires half-at-requires-3 returns)

@@ -1,0 +1,37 @@
+-- Number by number.
+use borrow.Author.Needs.{needs}
+use Rattle.plain.proofs.record_111.Statement.{statement}
+use Rattle.plain.proofs.record_111.Tie as tie
+
+half-at-requires : tie.Need-half-at-requires
+half-at-requires c κs = search needs
+
+half-at-requires-2 : tie.Need-half-at-requires-2
+half-at-requires-2 c κs = search needs
+
+from-requires : tie.Need-from-requires
+from-requires c κs = search needs
+
+usage-code-of-requires : tie.Need-usage-code-of-requires
+usage-code-of-requires c κs = search needs
+
+place-at-requires : tie.Need-place-at-requires
+place-at-requires c κs = search needs
+
+half-at-requires-3 : tie.Need-half-at-requires-3
+half-at-requires-3 c κs = search needs
+
+returns : tie.Need-returns
+returns c = cc
+
+pub record-111-spec : {M : Type 1} → statement M
+record-111-spec =
+    tie.close
+    (tie.spec
+    half-at-requires
+    half-at-requires-2
+    from-requires
+    usage-code-of-requires
+    place-at-requires
+    half-at-requires-3
+    returns)

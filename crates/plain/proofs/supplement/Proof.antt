@@ -1,0 +1,61 @@
+-- Number by number.
+use borrow.Author.Needs.{needs}
+use Rattle.plain.proofs.supplement.Statement.{statement}
+use Rattle.plain.proofs.supplement.Tie as tie
+
+byte-at-requires : tie.Need-byte-at-requires
+byte-at-requires c κs = search needs
+
+byte-at-requires-2 : tie.Need-byte-at-requires-2
+byte-at-requires-2 c κs = search needs
+
+byte-at-requires-3 : tie.Need-byte-at-requires-3
+byte-at-requires-3 c κs = search needs
+
+week-requires : tie.Need-week-requires
+week-requires c κs = search needs
+
+byte-at-requires-4 : tie.Need-byte-at-requires-4
+byte-at-requires-4 c κs = search needs
+
+days-requires : tie.Need-days-requires
+days-requires c κs = search needs
+
+byte-at-requires-5 : tie.Need-byte-at-requires-5
+byte-at-requires-5 c κs = search needs
+
+byte-at-requires-6 : tie.Need-byte-at-requires-6
+byte-at-requires-6 c κs = search needs
+
+byte-at-requires-7 : tie.Need-byte-at-requires-7
+byte-at-requires-7 c κs = search needs
+
+at-requires : tie.Need-at-requires
+at-requires c κs = search needs
+
+word-requires : tie.Need-word-requires
+word-requires c κs = search needs
+
+byte-at-requires-8 : tie.Need-byte-at-requires-8
+byte-at-requires-8 c κs = search needs
+
+returns : tie.Need-returns
+returns c = cc
+
+pub supplement-spec : {M : Type 1} → statement M
+supplement-spec =
+    tie.close
+    (tie.spec
+    byte-at-requires
+    byte-at-requires-2
+    byte-at-requires-3
+    week-requires
+    byte-at-requires-4
+    days-requires
+    byte-at-requires-5
+    byte-at-requires-6
+    byte-at-requires-7
+    at-requires
+    word-requires
+    byte-at-requires-8
+    returns)

@@ -1,0 +1,20 @@
+-- Number by number.
+use borrow.Author.Needs.{needs}
+use Rattle.plain.proofs.usage_code_of.Statement.{statement}
+use Rattle.plain.proofs.usage_code_of.Tie as tie
+
+at-requires : tie.Need-at-requires
+at-requires c κs = search needs
+
+instruction-requires : tie.Need-instruction-requires
+instruction-requires c κs = search needs
+
+usage-by-requires : tie.Need-usage-by-requires
+usage-by-requires c κs = search needs
+
+returns : tie.Need-returns
+returns c = cc
+
+pub usage-code-of-spec : {M : Type 1} → statement M
+usage-code-of-spec =
+    tie.close (tie.spec at-requires instruction-requires usage-by-requires returns)

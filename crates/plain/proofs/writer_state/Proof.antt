@@ -1,0 +1,19 @@
+-- Number by number.
+use borrow.Author.Needs.{needs}
+use Rattle.plain.proofs.writer_state.Statement.{statement}
+use Rattle.plain.proofs.writer_state.Tie as tie
+
+at-requires : tie.Need-at-requires
+at-requires c κs = search needs
+
+flag-at-requires : tie.Need-flag-at-requires
+flag-at-requires c κs = search needs
+
+sofar-requires : tie.Need-sofar-requires
+sofar-requires c κs = search needs
+
+returns : tie.Need-returns
+returns c = cc
+
+pub writer-state-spec : {M : Type 1} → statement M
+writer-state-spec = tie.close (tie.spec at-requires flag-at-requires sofar-requires returns)

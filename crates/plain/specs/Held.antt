@@ -1,0 +1,25 @@
+-- What a number of a caller's array is held as.
+-- Assumes nothing.
+use Prim.Native.Nat.{ℕ, min}
+use mathlib.Core.Bool.{Bool, not, cond}
+use lib.Dec.{eqb}
+
+-- A number too large for its place is held as the largest that the place has room for, which is in no field's range and in no code.
+abbrev pub byte : ℕ → ℕ
+byte n = min n 255
+
+-- In sixteen bits.
+abbrev pub half : ℕ → ℕ
+half n = min n 65535
+
+-- In thirty-two bits.
+abbrev pub word : ℕ → ℕ
+word n = min n 4294967295
+
+-- Yes or no: 0 is no.
+abbrev pub flag : ℕ → Bool
+flag n = not (eqb n 0)
+
+-- As a number.
+abbrev pub bit : Bool → ℕ
+bit b = cond b 1 0

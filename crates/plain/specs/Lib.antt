@@ -1,0 +1,5 @@
+pub mod Held
+pub mod Codes
+pub mod Records
+pub mod States
+pub mod Fits
