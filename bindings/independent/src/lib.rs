@@ -1,0 +1,41 @@
+//! Prescription sheets, read and written: usage codes of sixteen characters, supplementary codes of
+//! eight, runs of date codes, and the whole file.
+//!
+//! Every rule quotes or cites document 01, "What we are building and its rules". Numbers of refusals
+//! are those of its table "Numbers a caller gets back". Characters, codes and fields count from 1,
+//! offsets from 0.
+
+pub mod date;
+pub mod days;
+pub mod file;
+pub mod number;
+pub mod order;
+pub mod record;
+mod rules;
+pub mod supplement;
+pub mod text;
+pub mod usage;
+pub mod writer;
+
+/// A refusal of a code, a day set or a date: its number and the place it names.
+#[derive(Clone, Copy, Debug, PartialEq, Eq)]
+pub struct Refusal {
+    /// The number in the table of refusals.
+    pub number: u8,
+    /// The character at fault, counted from 1; 0 where no place is named.
+    pub place: usize,
+}
+
+impl Refusal {
+    pub(crate) const fn new(number: u8, place: usize) -> Self {
+        Refusal { number, place }
+    }
+}
+
+/// "Every character not named below is 0": 6 at the first one, from `place` on, that is not.
+pub(crate) fn zeros_from(code: &[u8], place: usize) -> Result<(), Refusal> {
+    match code[place - 1..].iter().position(|&c| c != b'0') {
+        None => Ok(()),
+        Some(beyond) => Err(Refusal::new(6, place + beyond)),
+    }
+}
