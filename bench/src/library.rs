@@ -1,0 +1,132 @@
+//! The library, through its C interface.
+
+// The crate links the library; what is called here is the interface itself.
+use crate::seen::see;
+use yawsimbel as _;
+
+type Record = [u64; 31];
+type State = [u64; 11];
+type Refusal = [u64; 4];
+
+const END: u8 = 255;
+
+extern "C" {
+    fn yws_usage_read(code: *const u8, length: usize, numbers: &mut [u64; 25], place: &mut u64) -> u8;
+    fn yws_usage_write(numbers: &[u64; 25], code: &mut [u8; 16]) -> u8;
+    fn yws_supplement_read(code: *const u8, length: usize, numbers: &mut [u64; 22], place: &mut u64) -> u8;
+    fn yws_supplement_write(numbers: &[u64; 22], code: &mut [u8; 8]) -> u8;
+    fn yws_sheet_check(file: *const u8, length: usize, records: &mut u64, refusal: &mut Refusal) -> u8;
+    fn yws_sheet_open(file: *const u8, length: usize, state: &mut State) -> u8;
+    fn yws_sheet_next(
+        file: *const u8,
+        length: usize,
+        state: &mut State,
+        record: &mut Record,
+        refusal: &mut Refusal,
+    ) -> u8;
+    fn yws_writer_open(out: *mut u8, room: usize, state: &mut State) -> u8;
+    fn yws_writer_put(
+        out: *mut u8,
+        room: usize,
+        state: &mut State,
+        record: &Record,
+        lent: *const u8,
+        length: usize,
+        own: &mut u64,
+    ) -> u8;
+    fn yws_writer_close(out: *mut u8, room: usize, state: &mut State, own: &mut u64) -> u8;
+}
+
+/// How many lines a sheet has, or its refusal's number.
+pub fn check(file: &[u8]) -> Result<usize, u8> {
+    let (mut records, mut refusal) = (0, [0; 4]);
+    // SAFETY: `file` is a slice of that length, the others are what the header asks for, and none overlaps another.
+    match unsafe { yws_sheet_check(file.as_ptr(), file.len(), &mut records, &mut refusal) } {
+        0 => Ok(records as usize),
+        number => Err(number),
+    }
+}
+
+/// Hands every record of a sheet to `take`; how many lines it has, or its refusal's number.
+fn each(file: &[u8], mut take: impl FnMut(&Record)) -> Result<usize, u8> {
+    let (mut state, mut record, mut refusal) = ([0; 11], [0; 31], [0; 4]);
+    let mut lines = 1;
+    // SAFETY: as in `check`.
+    let mut number = unsafe { yws_sheet_open(file.as_ptr(), file.len(), &mut state) };
+    while number == 0 {
+        // SAFETY: as in `check`; the file is the one that was opened.
+        number = unsafe { yws_sheet_next(file.as_ptr(), file.len(), &mut state, &mut record, &mut refusal) };
+        if number == 0 {
+            take(&record);
+            lines += 1;
+        }
+    }
+    match number {
+        END => Ok(lines),
+        number => Err(number),
+    }
+}
+
+/// Reads every record; how many lines there are, or the refusal's number.
+pub fn read(file: &[u8]) -> Result<usize, u8> {
+    each(file, |record| {
+        see(record);
+    })
+}
+
+/// Reads every record and writes it again; the length written, or the refusal's number.
+pub fn write(file: &[u8], out: &mut [u8]) -> Result<usize, u8> {
+    let (mut state, mut own, mut number) = ([0; 11], 0, 0);
+    let (start, room) = (out.as_mut_ptr(), out.len());
+    // SAFETY: `out` is a slice of that length, the others are what the header asks for, and none overlaps another.
+    unsafe { yws_writer_open(start, room, &mut state) };
+    each(file, |record| {
+        // SAFETY: as above, and `file` is a slice of that length, which the texts lie in.
+        number |= unsafe { yws_writer_put(start, room, &mut state, record, file.as_ptr(), file.len(), &mut own) };
+    })?;
+    // SAFETY: as above.
+    number |= unsafe { yws_writer_close(start, room, &mut state, &mut own) };
+    match number {
+        0 => Ok(state[0] as usize),
+        number => Err(number),
+    }
+}
+
+/// Opens a sheet only: the tests of its length, its frame and its version line.
+pub fn open(file: &[u8]) -> bool {
+    let mut state = [0; 11];
+    // SAFETY: as in `check`.
+    unsafe { yws_sheet_open(file.as_ptr(), file.len(), &mut state) == 0 }
+}
+
+/// The numbers of a usage code.
+pub fn usage_read(code: &[u8]) -> [u64; 25] {
+    let (mut numbers, mut place) = ([0; 25], 0);
+    // SAFETY: as in `check`.
+    unsafe { yws_usage_read(code.as_ptr(), code.len(), &mut numbers, &mut place) };
+    numbers
+}
+
+/// The usage code of numbers.
+pub fn usage_write(numbers: &[u64; 25]) -> [u8; 16] {
+    let mut code = [0; 16];
+    // SAFETY: as in `check`.
+    unsafe { yws_usage_write(numbers, &mut code) };
+    code
+}
+
+/// The numbers of a supplementary code.
+pub fn supplement_read(code: &[u8]) -> [u64; 22] {
+    let (mut numbers, mut place) = ([0; 22], 0);
+    // SAFETY: as in `check`.
+    unsafe { yws_supplement_read(code.as_ptr(), code.len(), &mut numbers, &mut place) };
+    numbers
+}
+
+/// The supplementary code of numbers.
+pub fn supplement_write(numbers: &[u64; 22]) -> [u8; 8] {
+    let mut code = [0; 8];
+    // SAFETY: as in `check`.
+    unsafe { yws_supplement_write(numbers, &mut code) };
+    code
+}
