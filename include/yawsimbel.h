@@ -178,7 +178,9 @@ uint8_t yws_sheet_next(const uint8_t *file, size_t length, uint64_t state[YWS_ST
 uint8_t yws_writer_open(uint8_t *out, size_t room, uint64_t state[YWS_STATE]);
 
 /* Puts a record, laid out as yws_sheet_next has it, whose texts are offsets into the `length` bytes of `lent`: a file that was read, or a
- * buffer with the texts of one record. A code whose first number is 0 is empty. YWS_RECORD_REFUSED, with the reader's number in *own (24
+ * buffer with the texts of one record. A text whose offsets are not inside `lent`, or fall, is one that no field takes (26, 27 for a site, 28
+ * where none may stand). A number that may be empty is empty where it is 0; one that may not is then 27. Numbers after a record's last are not
+ * looked at. A code whose first number is 0 is empty. YWS_RECORD_REFUSED, with the reader's number in *own (24
  * after closing), where the reader would refuse the record here; then YWS_ROOM exactly when the line with its CR LF and the closing 1Ah pass
  * `room` or YWS_FILE_MOST. *own is 0 but for YWS_RECORD_REFUSED. */
 uint8_t yws_writer_put(uint8_t *out, size_t room, uint64_t state[YWS_STATE], const uint64_t record[YWS_RECORD], const uint8_t *lent, size_t length,
