@@ -46,7 +46,7 @@ abbrev pub below : (ℕ → Bool) → (ℕ → Bool) → ℕ → Bool
 below f g zero = true
 below f g (suc n) = Bool·beq (f n) (g n) && below f g n
 
-agree : (f g : ℕ → Bool) (n : ℕ) → below f g n ≡ true → (c : ℕ) → c < n → f c ≡ g c
+pub agree : (f g : ℕ → Bool) (n : ℕ) → below f g n ≡ true → (c : ℕ) → c < n → f c ≡ g c
 agree f g zero t c h = absurd (omega arith)
 agree f g (suc n) t c h =
     split (eqb c n)

@@ -1,6 +1,7 @@
 pub mod Search
 pub mod Bools
 pub mod Lists
+pub mod Numbers
 pub mod Chain
 pub mod Span
 pub mod Whole

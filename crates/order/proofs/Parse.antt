@@ -13,6 +13,7 @@ use Rattle.order.specs.Code.Next.{stops, repeats, anew}
 use Rattle.cells.proofs.Split.{split}
 use Rattle.cells.proofs.Alike.{and-parts as parts}
 use Rattle.order.proofs.Bools.{both, either, or-left, or-right}
+use Rattle.order.proofs.Numbers.{all-below}
 use Rattle.order.proofs.Lists.{none, uncons, here, there, every, all}
 use Rattle.order.proofs.Chain.{step, runs, is-record, Rise, risen, not-anew}
 use Rattle.order.proofs.Span.{Span, header-span, directions-span, drug-span, outside, Left}
@@ -170,10 +171,6 @@ stop-201 = refl
 no-more : (m : ℕ) → among (drug .needed) m ≡ true → m ≡ 201
 unfolding drug
 no-more m h = uncons 201 m [] h (λ e. sym e) (λ k. none m k)
-
-all-below : each (λ n. ltb n 282) records ≡ true
-unfolding records header directions drug each
-all-below = refl
 
 -- one number more in front, by the part of the number before it
 module _ (q n : ℕ) (ns : List ℕ) (h : step q n ≡ true) (t : Parsed n ns) where

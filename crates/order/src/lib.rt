@@ -2,63 +2,44 @@
 // the last number alone says how far the file has come; it is 0 before the first record.
 ghost use mathlib.Core.Path.{_≡_};
 ghost use Rattle.order.specs.Order.{among, records};
-ghost use Rattle.order.specs.Code.Next.{between as betweenOf, skips as skipsOf, rises as risesOf, anew as anewOf, may as mayOf, refusal as refusalOf, follow as followOf, closes as closesOf};
-
-// All the record numbers, in the order of a file.
-const RECORDS: [u16; 36] = [
-    1,
-    2,
-    3,
-    4,
-    5,
-    11,
-    12,
-    13,
-    14,
-    21,
-    22,
-    23,
-    24,
-    25,
-    27,
-    28,
-    29,
-    30,
-    31,
-    51,
-    52,
-    61,
-    62,
-    63,
-    81,
-    82,
-    101,
-    102,
-    111,
-    181,
-    201,
-    211,
-    221,
-    231,
-    241,
-    281,
-];
+ghost use Rattle.order.specs.Code.Next.{inHeader, inRp, between as betweenOf, skips as skipsOf, rises as risesOf, anew as anewOf, may as mayOf, refusal as refusalOf, follow as followOf, closes as closesOf};
 
 // Those that are never left out.
 const NEEDED: [u16; 11] = [1, 5, 11, 12, 13, 22, 23, 51, 101, 111, 201];
+
+// A header record's number: 1 to 5, 11 to 14, 21 to 25, 27 to 31, 51, 52, 61 to 63, 81, 82.
+fn in_header(n: u16) -> bool
+    ensures { λ r. ⌜ r ≡ inHeader n ⌝ }
+{
+    ((1 <= n) & (n <= 5))
+        | ((11 <= n) & (n <= 14))
+        | ((21 <= n) & (n <= 31) & (n != 26))
+        | ((51 <= n) & (n <= 52))
+        | ((61 <= n) & (n <= 63))
+        | ((81 <= n) & (n <= 82))
+}
+
+// The number of a record of an RP or of a drug.
+fn in_rp(n: u16) -> bool
+    ensures { λ r. ⌜ r ≡ inRp n ⌝ }
+{
+    (n == 101)
+        | (n == 102)
+        | (n == 111)
+        | (n == 181)
+        | (n == 201)
+        | (n == 211)
+        | (n == 221)
+        | (n == 231)
+        | (n == 241)
+        | (n == 281)
+}
 
 // Is it the number of a record?
 pub fn known(n: u16) -> bool
     ensures { λ r. ⌜ r ≡ among records n ⌝ }
 {
-    let mut i: usize = 0;
-    while i < 36 {
-        if RECORDS[i] == n {
-            return true;
-        }
-        i += 1;
-    }
-    false
+    in_header(n) | in_rp(n)
 }
 
 // Does m lie between the last number and n?
@@ -72,9 +53,10 @@ fn between(last: u16, n: u16, m: u16) -> bool
 fn skips(last: u16, n: u16) -> bool
     ensures { λ r. ⌜ r ≡ skipsOf last n ⌝ }
 {
+    let needed = NEEDED;
     let mut i: usize = 0;
     while i < 11 {
-        if between(last, n, NEEDED[i]) {
+        if between(last, n, needed[i]) {
             return true;
         }
         i += 1;

@@ -11,10 +11,10 @@ use Rattle.order.proofs.skips.Statement.{statement}
 use Rattle.order.proofs.skips.Tie as tie
 
 abbrev Inv-loop : tie.InvT-loop
-Inv-loop last n i₀ i = (i ≤ 11) × (some (between last n) (drop i stops) ≡ some (between last n) stops)
+Inv-loop last n needed i₀ i = (i ≤ 11) × (some (between last n) (drop i stops) ≡ some (between last n) stops)
 
 abbrev μ-loop : tie.MeasureT-loop
-μ-loop last n i₀ i = 11 - i
+μ-loop last n needed i₀ i = 11 - i
 
 loop-holds : tie.Need-loop-holds Inv-loop μ-loop
 loop-holds c = search needs
