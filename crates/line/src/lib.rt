@@ -1,7 +1,10 @@
 // Lines and fields: the frame of a file, and where a field ends.
 use cells::Fault;
 ghost use mathlib.Core.Path.{_≡_};
+ghost use Prim.Native.Nat.{_+_, _≤_};
+ghost use lib.ListN.{length, drop};
 ghost use Rattle.line.specs.Frame.{plain as plainOf, inLine, next as nextOf, frameFault};
+ghost use Rattle.line.specs.Code.Past.{plains, past as pastOf};
 ghost use Rattle.line.specs.Fields.{ends as endsOf, fieldEnd};
 
 // What has been read of a file: a line or nothing, a line and its CR, lines with their CR LF, all, or what no file begins with.
@@ -57,6 +60,33 @@ fn next(state: u8, b: u8) -> u8
     WRONG
 }
 
+// The first byte from a place on that may not stand in a line, or the end.
+fn plain_end(s: &[u8], at: usize) -> usize
+    requires { ⌜ at ≤ length (now s) ⌝ }
+    ensures { λ r. ⌜ r ≡ at + plains (drop at (now (s .entry))) ⌝ }
+{
+    let mut i = at;
+    while i < s.len() {
+        if plain(s[i]) {
+            i += 1;
+        } else {
+            return i;
+        }
+    }
+    i
+}
+
+// Where to go on: within a line, past the bytes that leave it one.
+fn past(s: &[u8], state: u8, at: usize) -> usize
+    requires { ⌜ at ≤ length (now s) ⌝ }
+    ensures { λ r. ⌜ r ≡ pastOf (now (s .entry)) state at ⌝ }
+{
+    if state == LINE {
+        return plain_end(s, at);
+    }
+    at
+}
+
 // The first byte that no well framed file has there: 21 at its offset, or at the end; 0 where the file is well framed.
 pub fn frame_fault(s: &[u8]) -> Fault
     ensures { λ r. ⌜ r ≡ frameFault (now (s .entry)) ⌝ }
@@ -71,7 +101,7 @@ pub fn frame_fault(s: &[u8]) -> Fault
                 place: i,
             };
         }
-        i += 1;
+        i = past(s, state, i + 1);
     }
     if state == ALL {
         return Fault {

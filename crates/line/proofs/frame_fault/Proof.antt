@@ -1,13 +1,13 @@
 -- The loop leaves the fault of the bytes left, after what has been read, as it was; `Steps` has the steps.
 -- Assumes nothing.
-use Prim.Native.Nat.{_-_}
-use mathlib.Core.Path.{_≡_, refl, _∙_, sym}
+use Prim.Native.Nat.{ℕ, _+_, _-_}
+use mathlib.Core.Path.{_≡_, refl, _∙_, sym, ap}
 use native.Mathlib.Omega.{arith}
 use borrow.Author.Tests.{eq-eqb, ne-eqb}
 use borrow.Author.Needs.{needs}
 use lib.ListN.{length, drop}
 use Rattle.line.specs.Frame.{frameFrom, frameFault}
-use Rattle.line.proofs.Steps.{frame-none, frame-here, frame-more}
+use Rattle.line.proofs.Steps.{frame-none, frame-here, frame-more, past-within, past-same}
 use Rattle.line.proofs.frame_fault.Statement.{statement}
 use Rattle.line.proofs.frame_fault.Tie as tie
 
@@ -32,16 +32,28 @@ returns c =
     let l = c .before .before .before .before .loop in
     sym (frame-here (c .before .before .before .before .before .before .args .s .now) (l .i) (omega arith) (l .state) (c .before .next .result) (c .before .next .ensures) (c .if1 .taken)) ∙ l .inv
 
-add-i : tie.Need-add-i Inv-loop μ-loop
-add-i c = search needs
+add-past : tie.Need-add-past Inv-loop μ-loop
+add-past c = search needs
+
+past-requires : tie.Need-past-requires Inv-loop μ-loop
+past-requires c κs = search needs
 
 loop-less : tie.Need-loop-less Inv-loop μ-loop
-loop-less c = search needs
+loop-less c =
+    let s = c .before .before .before .before .before .before .before .args .s .now in
+    let l = c .before .before .before .before .before .loop in
+    let w = past-within s (c .before .before .next .result) (l .i + 1) (omega arith) in
+    omega (arith, c .past .ensures, w .0, w .1)
 
 loop-again : tie.Need-loop-again Inv-loop μ-loop
 loop-again c =
-    let l = c .before .before .before .before .loop in
-    sym (frame-more (c .before .before .before .before .before .before .args .s .now) (l .i) (omega arith) (l .state) (c .before .next .result) (c .before .next .ensures) (c .if1 .left)) ∙ l .inv
+    let s = c .before .before .before .before .before .before .before .args .s .now in
+    let l = c .before .before .before .before .before .loop in
+    let n = c .before .before .next in
+    ap (λ (i : ℕ). frameFrom (n .result) i (drop i s)) (c .past .ensures)
+    ∙ sym (past-same s (n .result) (l .i + 1) (omega arith))
+    ∙ sym (frame-more s (l .i) (omega arith) (l .state) (n .result) (n .ensures) (c .before .if1 .left))
+    ∙ l .inv
 
 returns-2 : tie.Need-returns-2 Inv-loop μ-loop
 unfolding frameFrom
@@ -67,7 +79,8 @@ frame-fault-spec =
     shared-slice-read-next
     next-requires
     returns
-    add-i
+    add-past
+    past-requires
     loop-less
     loop-again
     returns-2
