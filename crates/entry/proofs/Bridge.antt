@@ -22,9 +22,8 @@ use Rattle.order.proofs.Lists.{every}
 use Rattle.field.specs.Field.{free, text, readField}
 use Rattle.field.specs.declared.Rule.{Rule}
 use Rattle.field.specs.declared.Sofar.{Sofar}
-use Rattle.row.specs.Table.{typed, kindField, codeField, rulesFrom, rulesOf, rules, counted}
+use Rattle.row.specs.Table.{typed, kindField, codeField, rulesFrom, rulesOf, rules, counted, noRule, tableOf}
 use Rattle.row.specs.Row.{fieldByField, readRow}
-use Rattle.row.specs.Code.Walk.{noRule, tableOf}
 use Rattle.row.specs.declared.Row.{Row}
 use Rattle.row.specs.declared.Rules.{Rules}
 use Rattle.record.specs.Record.{textAt}

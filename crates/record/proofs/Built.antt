@@ -19,11 +19,10 @@ use Rattle.supplement.specs.declared.Supplement.{Supplement}
 use Rattle.field.specs.Field.{readField}
 use Rattle.field.specs.declared.Rule.{Rule}
 use Rattle.field.specs.declared.Sofar.{Sofar}
-use Rattle.row.specs.Table.{nth, typed, rules, rulesFrom, counted}
+use Rattle.row.specs.Table.{nth, typed, rules, rulesFrom, counted, noRule}
 use Rattle.row.specs.Row.{fieldsAt, values, valueAt, noValue, inNine, fine, valuesOf, fieldByField, readRow}
 use Rattle.row.specs.declared.Value.{Value}
 use Rattle.row.specs.declared.Row.{Row}
-use Rattle.row.specs.Code.Walk.{noRule}
 use Rattle.row.proofs.Walk.{inside}
 use Rattle.row.proofs.Each.{as-many}
 use Rattle.record.specs.Record.{offset, placeOf, textAt, dateIn, usageIn, supplementIn, recordOf}

@@ -19,9 +19,9 @@ use Rattle.field.specs.Field.{free, text, right, readField}
 use Rattle.field.specs.declared.Rule.{Rule}
 use Rattle.field.specs.declared.Sofar.{Sofar}
 use Rattle.field.proofs.Laws.{right-when}
-use Rattle.row.specs.Table.{typed, rules, rulesFrom, rulesOf, counted}
+use Rattle.row.specs.Table.{typed, rules, rulesFrom, rulesOf, counted, noRule, tableOf}
 use Rattle.row.specs.Row.{values, noValue, blanks, inNine, miscounted, fieldByField, valuesOf, fine, readRow}
-use Rattle.row.specs.Code.Walk.{noRule, tableOf, valueOf, rowFrom, keptFrom}
+use Rattle.row.specs.Code.Walk.{widthOf, valueOf, rowFrom, keptFrom}
 use Rattle.row.specs.declared.Value.{Value}
 use Rattle.row.specs.declared.Row.{Row}
 
@@ -105,6 +105,13 @@ module _ (joins : Supplement → Bool) (c : Sofar) where
     typed-rules : typed n ≡ true → rules n fs ≡ rulesOf n fs
     unfolding rules
     typed-rules h = rw h
+
+    -- as many as the record has
+    pub table-width : length (rulesOf n fs) ≡ widthOf n
+    unfolding rulesFrom widthOf
+    table-width =
+        split (eqb n 51) (λ e. simp e)
+        (λ a. split (eqb n 101) (λ e. simp (a, e)) (λ b. split (eqb n 111) (λ e. simp (a, b, e)) (λ d. split (eqb n 181) (λ e. simp (a, b, d, e)) (λ e. simp (a, b, d, e)))))
 
     -- a table has one to nine fields
     pub table-size : (1 ≤ length (rulesOf n fs)) × (length (rulesOf n fs) ≤ 9)

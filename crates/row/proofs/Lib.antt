@@ -1,4 +1,5 @@
 pub mod Walk
+pub mod Parted
 pub mod Nine
 pub mod Bridge
 pub mod Same

@@ -2,13 +2,14 @@
 -- Assumes nothing.
 use Prim.Native.Nat.{ℕ, _-_}
 use mathlib.Core.Bool.{Bool, cond, _&&_, _||_}
-use mathlib.Core.List.{List, [], _∷_, map}
+use mathlib.Core.List.{List, [], _∷_, _++_, map}
 use lib.Dec.{eqb, leb}
-use lib.ListN.{length, getD}
+use lib.ListN.{length, getD, replicate}
 use Rattle.cells.specs.Text.{bytes}
 use Rattle.cells.specs.Code.Same.{eqs}
-use Rattle.field.specs.Field.{free, required, forbidden, text, drugCode, date, site, usageCode, supplementCode, amount, number, codeKind, newRp, ownRp, drugSerial, supplementSerial}
+use Rattle.field.specs.Field.{rule, free, required, forbidden, text, drugCode, date, site, usageCode, supplementCode, amount, number, codeKind, newRp, ownRp, drugSerial, supplementSerial}
 use Rattle.field.specs.declared.Rule.{Rule}
+use Rattle.row.specs.declared.Rules.{Rules}
 
 -- The kth field, counted from 1; empty where there are fewer.
 abbrev pub nth : ℕ → List (List ℕ) → List ℕ
@@ -80,6 +81,14 @@ rulesFrom n kind code =
     (cond (eqb n 101) rules101
     (cond (eqb n 111) (rules111 (onlyWith 0x32 kind))
     (cond (eqb n 181) (rules181 (onlyWith 0x38 kind) (onlyWith 0x39 kind)) (rules201 (drugCodeNeed kind) (nameNeed kind code)))))
+
+-- A rule of no field.
+abbrev pub noRule : Rule
+noRule = rule 0 0 0 0
+
+-- Rules in nine cells, as many as there are.
+abbrev pub tableOf : List Rule → Rules
+tableOf rs = record { count = length rs; each = rs ++ replicate (9 - length rs) noRule }
 
 -- The rules of a table's record, by its fields.
 abbrev pub rulesOf : ℕ → List (List ℕ) → List Rule

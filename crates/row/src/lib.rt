@@ -5,14 +5,14 @@ use field::Sofar;
 ghost use mathlib.Core.Path.{_≡_};
 ghost use mathlib.Core.Bool.{true};
 ghost use Prim.Native.Nat.{_≤_};
-ghost use lib.ListN.{length};
+ghost use lib.ListN.{length, replicate};
 ghost use Rattle.cells.specs.Text.{bytes};
 ghost use Rattle.cells.specs.Code.Same.{eqs};
 ghost use Rattle.field.specs.Field.{rule as ruleOf};
 ghost use Rattle.schedule.specs.Code.Kept.{mayJoin};
-ghost use Rattle.row.specs.Table.{mark as markOf, rules51, rules101, rules111, rules181, rules201, kindField, codeField, rulesFrom, rulesOf, keptRule, typed as typedOf, nth};
+ghost use Rattle.row.specs.Table.{mark as markOf, tableOf, rules51, rules101, rules111, rules181, rules201, kindField, codeField, rulesFrom, rulesOf, keptRule, typed as typedOf, nth};
 ghost use Rattle.row.specs.Row.{fieldsAt, lineEnds, blanks, refusedAt, miscounted as miscountedRow, readRow};
-ghost use Rattle.row.specs.Code.Walk.{needWith, drugNeed, nameNeedOf, tableOf, rowFrom, keptFrom};
+ghost use Rattle.row.specs.Code.Walk.{needWith, drugNeed, nameNeedOf, widthOf, cutFrom, marks, rowFrom, keptFrom};
 
 // What was read of a field, and its place in the file.
 pub struct Value {
@@ -246,21 +246,49 @@ pub fn nth_field(s: &[u8], at: usize, n: usize) -> &[u8]
     &s[from..to]
 }
 
-// How many fields stand at a place.
-fn field_count(s: &[u8], at: usize) -> usize
+// Where the fields of a line end: how many there are, 10 for any number above nine; and the ends of the first nine.
+struct Cut {
+    count: usize,
+    ends: [usize; 9],
+}
+
+// Parts the line at a place, in one pass.
+fn part_line(s: &[u8], at: usize) -> Cut
     requires { ⌜ at ≤ length (now s) ⌝ }
-    ensures { λ r. ⌜ r ≡ length (fieldsAt (now (s .entry)) at) ⌝ }
+    ensures { λ r. ⌜ r ≡ cutFrom 0 at (fieldsAt (now (s .entry)) at) (replicate 9 0) ⌝ }
 {
+    let mut ends = [0; 9];
     let mut from = at;
-    let mut k: usize = 1;
-    loop {
+    let mut k: usize = 0;
+    while k < 9 {
         let end = line::field_end(s, from);
+        ends[k] = end;
+        k += 1;
         if line_ends(s, end) {
-            return k;
+            return Cut {
+                count: k,
+                ends: ends,
+            };
         }
         from = end + 1;
-        k += 1;
     }
+    Cut {
+        count: 10,
+        ends: ends,
+    }
+}
+
+// The nth field, counted from 1, of those that end there.
+fn cut_field(s: &[u8], at: usize, ends: [usize; 9], n: usize) -> &[u8]
+    requires { ⌜ (at ≤ length (now s)) × (1 ≤ n) × (n ≤ length (fieldsAt (now s) at)) × (n ≤ 9) × (marks ends 0 at (fieldsAt (now s) at) ≡ true) ⌝ }
+    ensures { λ r. ⌜ now r ≡ nth n (fieldsAt (now (s .entry)) at) ⌝ }
+{
+    let to = ends[n - 1];
+    if n == 1 {
+        return &s[at..to];
+    }
+    let from = ends[n - 2] + 1;
+    &s[from..to]
 }
 
 fn table_of_usage(kind: u8) -> Rules
@@ -326,14 +354,34 @@ pub fn code_field(n: u16) -> usize
     1
 }
 
-// The rules of the typed record whose fields stand at a place.
-fn table(n: u16, s: &[u8], at: usize) -> Rules
+// How many fields a typed record has.
+fn width(n: u16) -> usize
+    ensures { λ k. ⌜ k ≡ widthOf n ⌝ }
+{
+    if n == 51 {
+        return 1;
+    }
+    if n == 101 {
+        return 4;
+    }
+    if n == 111 {
+        return 5;
+    }
+    if n == 181 {
+        return 6;
+    }
+    9
+}
+
+// The rules of the typed record whose fields stand at a place, as many as it has, and end there.
+fn table(n: u16, s: &[u8], at: usize, ends: [usize; 9]) -> Rules
+    requires { ⌜ (at ≤ length (now s)) × (length (fieldsAt (now s) at) ≡ widthOf n) × (marks ends 0 at (fieldsAt (now s) at) ≡ true) ⌝ }
     ensures { λ t. ⌜ t ≡ tableOf (rulesOf n (fieldsAt (now (s .entry)) at)) ⌝ }
 {
     rules_of(
         n,
-        nth_field(s, at, kind_field(n)),
-        nth_field(s, at, code_field(n)),
+        cut_field(s, at, ends, kind_field(n)),
+        cut_field(s, at, ends, code_field(n)),
     )
 }
 
@@ -391,17 +439,22 @@ fn miscounted() -> Row
 }
 
 // Field by field, by the rules of a typed record.
-fn read_typed(c: Sofar, s: &[u8], at: usize, t: Rules) -> Row
-    requires { ⌜ (at ≤ length (now s)) × (t .count ≤ 9) × (length (fieldsAt (now s) at) ≡ t .count) ⌝ }
+fn read_typed(c: Sofar, s: &[u8], at: usize, ends: [usize; 9], t: Rules) -> Row
+    requires { ⌜ (at ≤ length (now s)) × (t .count ≤ 9) × (length (fieldsAt (now s) at) ≡ t .count) × (marks ends 0 at (fieldsAt (now s) at) ≡ true) ⌝ }
     ensures { λ r. ⌜ r ≡ rowFrom (mayJoin (c .month) (c .schedule)) c 0 at (t .each) (fieldsAt (now (s .entry)) at) blanks ⌝ }
 {
     let rules = t.each;
     let count = t.count;
-    let mut values = blank();
+    let mut values = [Value {
+        n: 0,
+        amount: 0,
+        from: 0,
+        to: 0,
+    }; 9];
     let mut from = at;
     let mut i: usize = 0;
     while i < count {
-        let to = line::field_end(s, from);
+        let to = ends[i];
         let f = field::read(c, rules[i], &s[from..to]);
         if f.number != 0 {
             return refused(i + 1, f);
@@ -458,11 +511,12 @@ fn read_counted(c: Sofar, s: &[u8], n: u16, at: usize) -> Row
     requires { ⌜ (at ≤ length (now s)) × (typedOf n ≡ true) ⌝ }
     ensures { λ r. ⌜ r ≡ readRow (mayJoin (c .month) (c .schedule)) c n at (fieldsAt (now (s .entry)) at) ⌝ }
 {
-    let t = table(n, s, at);
-    if field_count(s, at) == t.count {
-        return read_typed(c, s, at, t);
+    let parted = part_line(s, at);
+    if parted.count != width(n) {
+        return miscounted();
     }
-    miscounted()
+    let ends = parted.ends;
+    read_typed(c, s, at, ends, table(n, s, at, ends))
 }
 
 // Reads the fields at a place of the file, of a record of this number.

@@ -11,8 +11,7 @@ use Rattle.order.specs.Code.Next.{follow}
 use Rattle.field.specs.Field.{readField}
 use Rattle.field.specs.declared.Rule.{Rule}
 use Rattle.field.specs.declared.Sofar.{Sofar}
-use Rattle.row.specs.Table.{typed, kindField, codeField, rulesFrom, keptRule}
-use Rattle.row.specs.Code.Walk.{noRule, tableOf}
+use Rattle.row.specs.Table.{typed, kindField, codeField, rulesFrom, keptRule, noRule, tableOf}
 use Rattle.row.specs.declared.Rules.{Rules}
 use Rattle.printed.specs.declared.Piece.{Piece}
 use Rattle.record.specs.declared.Record.{Record}

@@ -19,7 +19,7 @@ element-copy-out-t16 : tie.Need-element-copy-out-t16
 element-copy-out-t16 c = search needs
 
 returns : tie.Need-returns
-returns c = cc
+returns c = rw (c .placed .ensures)
 
 pub record-101-spec : {M : Type 1} → statement M
 record-101-spec =

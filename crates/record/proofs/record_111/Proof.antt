@@ -28,7 +28,7 @@ element-copy-out-t22 : tie.Need-element-copy-out-t22
 element-copy-out-t22 c = search needs
 
 returns : tie.Need-returns
-returns c = cc
+returns c = rw (c .before .before .usage-at .ensures, c .before .before .before .placed .ensures, c .placed2 .ensures)
 
 pub record-111-spec : {M : Type 1} → statement M
 record-111-spec =

@@ -34,7 +34,7 @@ placed-requires-3 : tie.Need-placed-requires-3
 placed-requires-3 c κs = search needs
 
 returns : tie.Need-returns
-returns c = cc
+returns c = rw (c .before .before .supplement-at .ensures, c .before .before .before .before .before .placed .ensures, c .before .before .before .placed2 .ensures, c .placed3 .ensures)
 
 pub record-181-spec : {M : Type 1} → statement M
 record-181-spec =

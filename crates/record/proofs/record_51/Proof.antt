@@ -13,7 +13,7 @@ date-at-requires : tie.Need-date-at-requires
 date-at-requires c κs = search needs
 
 returns : tie.Need-returns
-returns c = cc
+returns c = rw (c .date-at .ensures, c .before .placed .ensures)
 
 pub record-51-spec : {M : Type 1} → statement M
 record-51-spec =

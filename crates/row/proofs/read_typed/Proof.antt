@@ -1,17 +1,18 @@
 -- The loop leaves the row as it was: that of the fields from there on, as many as are left of the count.
 -- Assumes nothing.
 use Prim.Native.Nat.{ℕ, _+_, _-_, _≤_, _<_}
-use mathlib.Core.Path.{_≡_, sym, ap, _∙_}
-use mathlib.Core.Bool.{Bool, cond}
+use mathlib.Core.Path.{_≡_, refl, sym, ap, _∙_}
+use mathlib.Core.Bool.{Bool, true, cond}
 use mathlib.Core.List.{List, [], _∷_}
 use native.Mathlib.Nat.{zero-add}
 use native.Mathlib.Omega.{arith}
 use borrow.Author.Needs.{needs}
-use borrow.Author.Tests.{eq-eqb, ne-eqb, lt-ltb, le-ltb}
-use lib.Dec.{ltb}
+use borrow.Author.Tests.{eq-eqb, ne-eqb, eqb-true, lt-ltb, le-ltb}
+use lib.Dec.{ltb, eqb}
 use lib.ListN.{length, getD, set, take, drop}
 use lib.Seq.{slice}
 use Rattle.cells.proofs.Split.{split}
+use Rattle.cells.proofs.Alike.{and-left, and-right}
 use Rattle.line.specs.Fields.{fieldEnd}
 use Rattle.supplement.specs.declared.Supplement.{Supplement}
 use Rattle.schedule.specs.Code.Kept.{mayJoin}
@@ -21,7 +22,8 @@ use Rattle.field.specs.declared.Sofar.{Sofar}
 use Rattle.field.specs.declared.Field.{Field}
 use Rattle.line.proofs.Laws.{part}
 use Rattle.row.specs.Row.{fieldsAt, blanks, refusedAt, lineEnds}
-use Rattle.row.specs.Code.Walk.{noRule, rowFrom}
+use Rattle.row.specs.Table.{noRule}
+use Rattle.row.specs.Code.Walk.{rowFrom, marks}
 use Rattle.row.specs.declared.Value.{Value}
 use Rattle.row.proofs.Walk.{after-start, size, more, more-fit, last, within, some}
 use Rattle.row.proofs.read_typed.Statement.{statement}
@@ -59,6 +61,14 @@ module _ (s : List ℕ) (at : ℕ) (h : at ≤ length s) (e : ℕ) (q : e ≡ fi
       let z : length (left i count s at) ≡ length (slice at e s ∷ fieldsAt s (e + 1)) = ap length w in
       (w ∙ rw (left-some (i + 1) count s (e + 1) (omega (arith, some s (e + 1) f))), λ m. f))
 
+  -- it ends where it was noted to, and so do those after it
+  noted : (ends : List ℕ) → marks ends i at (left i count s at) ≡ true →
+      (getD ends i 0 ≡ e) × (marks ends (i + 1) (e + 1) (left (i + 1) count s (e + 1)) ≡ true)
+  unfolding marks
+  noted ends t =
+      let k = rw (parts .0, size s at h e q) at t in
+      (eqb-true (getD ends i 0) e (and-left (eqb (getD ends i 0) e) _ k), and-right (eqb (getD ends i 0) e) _ k)
+
   rest : i + 1 + length (left (i + 1) count s (e + 1)) ≡ count
   rest = let z = ap length (parts .0) in omega (arith, z)
 
@@ -79,29 +89,35 @@ module _ (s : List ℕ) (at : ℕ) (h : at ≤ length s) (e : ℕ) (q : e ≡ fi
     unfolding rowFrom
     read-field z = rw (parts .0, ← read, eq-eqb (t .number) 0 z, size s at h e q)
 
+-- where the next field was noted to end, it ends
+end-noted : (s : List ℕ) (at : ℕ) → at ≤ length s → (i count : ℕ) → i < count → i + length (left i count s at) ≡ count → (ends : List ℕ) →
+    marks ends i at (left i count s at) ≡ true → getD ends i 0 ≡ fieldEnd s at
+end-noted s at h i count b n ends t = noted s at h (fieldEnd s at) refl i count b n ends t .0
+
 abbrev Inv-loop : tie.InvT-loop
-Inv-loop c s at rules count values₀ from₀ i₀ values from i =
+Inv-loop c s at ends rules count values₀ from₀ i₀ values from i =
     (i ≤ count)
     × (i < count → from ≤ length s)
     × (i + length (left i count s from) ≡ count)
     × (rowFrom (mayJoin (c .month) (c .schedule)) c i from rules (left i count s from) values
     ≡ rowFrom (mayJoin (c .month) (c .schedule)) c 0 at rules (fieldsAt s at) blanks)
+    × (marks ends i from (left i count s from) ≡ true)
 
 abbrev μ-loop : tie.MeasureT-loop
-μ-loop c s at rules count values₀ from₀ i₀ values from i = count - i
-
-blank-requires : tie.Need-blank-requires Inv-loop μ-loop
-blank-requires c κs = search needs
+μ-loop c s at ends rules count values₀ from₀ i₀ values from i = count - i
 
 loop-holds : tie.Need-loop-holds Inv-loop μ-loop
 loop-holds c =
-    let a = c .before .before .before .args in
-    let p = c .before .before .before .pre in
+    let a = c .before .before .args in
+    let p = c .before .before .pre in
     let w : left 0 (a .t .count) (a .s .now) (a .at) ≡ fieldsAt (a .s .now) (a .at) = whole (a .s .now) (a .at) (p .0) (a .t .count) (p .2) in
-    (omega arith, λ k. p .0, rw (w, zero-add) (p .2), rw (w, c .blank .ensures))
+    (omega arith, λ k. p .0, rw (w, zero-add) (p .2), rw w, rw w (p .3))
 
-field-end-requires : tie.Need-field-end-requires Inv-loop μ-loop
-field-end-requires c κs = search needs
+mul-to : tie.Need-mul-to Inv-loop μ-loop
+mul-to c = search needs
+
+array-read-to : tie.Need-array-read-to Inv-loop μ-loop
+array-read-to c = search needs
 
 mul-read : tie.Need-mul-read Inv-loop μ-loop
 mul-read c = search needs
@@ -112,26 +128,29 @@ array-copy-out-read c = search needs
 sub-read : tie.Need-sub-read Inv-loop μ-loop
 sub-read c =
     let f = c .before in
-    let a = f .before .before .before .before .before .before .args in
-    let l = f .before .before .loop in
-    let b = f .before .loop-test .taken in
-    omega (arith, within (a .s .now) (l .from) (l .inv .1 b) (f .field-end .result) (f .field-end .ensures))
+    let a = f .before .before .before .before .args in
+    let l = f .before .loop in
+    let b = f .loop-test .taken in
+    let q = end-noted (a .s .now) (l .from) (l .inv .1 b) (l .i) (a .t .count) b (l .inv .2) (a .t4) (l .inv .4) in
+    omega (arith, within (a .s .now) (l .from) (l .inv .1 b) (getD (a .t4) (l .i) 0) q)
 
 part-read-start : tie.Need-part-read-start Inv-loop μ-loop
 part-read-start c =
     let f = c .before in
-    let a = f .before .before .before .before .before .before .args in
-    let l = f .before .before .loop in
-    let b = f .before .loop-test .taken in
-    omega (arith, within (a .s .now) (l .from) (l .inv .1 b) (f .field-end .result) (f .field-end .ensures))
+    let a = f .before .before .before .before .args in
+    let l = f .before .loop in
+    let b = f .loop-test .taken in
+    let q = end-noted (a .s .now) (l .from) (l .inv .1 b) (l .i) (a .t .count) b (l .inv .2) (a .t4) (l .inv .4) in
+    omega (arith, within (a .s .now) (l .from) (l .inv .1 b) (getD (a .t4) (l .i) 0) q)
 
 part-read-end : tie.Need-part-read-end Inv-loop μ-loop
 part-read-end c =
     let f = c .before in
-    let a = f .before .before .before .before .before .before .args in
-    let l = f .before .before .loop in
-    let b = f .before .loop-test .taken in
-    omega (arith, within (a .s .now) (l .from) (l .inv .1 b) (f .field-end .result) (f .field-end .ensures))
+    let a = f .before .before .before .before .args in
+    let l = f .before .loop in
+    let b = f .loop-test .taken in
+    let q = end-noted (a .s .now) (l .from) (l .inv .1 b) (l .i) (a .t .count) b (l .inv .2) (a .t4) (l .inv .4) in
+    omega (arith, within (a .s .now) (l .from) (l .inv .1 b) (getD (a .t4) (l .i) 0) q)
 
 read-requires : tie.Need-read-requires Inv-loop μ-loop
 read-requires c κs = search needs
@@ -145,12 +164,13 @@ refused-requires c κs = search needs
 returns : tie.Need-returns Inv-loop μ-loop
 returns c =
     let f = c .before .before .before .before .before .before in
-    let a = f .before .before .before .before .before .before .args in
-    let l = f .before .before .loop in
-    let b = f .before .loop-test .taken in
+    let a = f .before .before .before .before .args in
+    let l = f .before .loop in
+    let b = f .loop-test .taken in
+    let q = end-noted (a .s .now) (l .from) (l .inv .1 b) (l .i) (a .t .count) b (l .inv .2) (a .t4) (l .inv .4) in
     let r = c .before .before .before .read in
     c .refused .ensures
-    ∙ sym (wrong-field (a .s .now) (l .from) (l .inv .1 b) (f .field-end .result) (f .field-end .ensures) (l .i) (a .t .count) b (l .inv .2) (mayJoin (a .c .month) (a .c .schedule)) (a .c) (a .t .each) (l .values) (r .result) (r .ensures) (c .before .if1 .taken))
+    ∙ sym (wrong-field (a .s .now) (l .from) (l .inv .1 b) (getD (a .t4) (l .i) 0) q (l .i) (a .t .count) b (l .inv .2) (mayJoin (a .c .month) (a .c .schedule)) (a .c) (a .t .each) (l .values) (r .result) (r .ensures) (c .before .if1 .taken))
     ∙ l .inv .3
 
 mul-values : tie.Need-mul-values Inv-loop μ-loop
@@ -162,10 +182,11 @@ array-set-from-values c = search needs
 add-from : tie.Need-add-from Inv-loop μ-loop
 add-from c =
     let f = c .before .before .before .before .before in
-    let a = f .before .before .before .before .before .before .args in
-    let l = f .before .before .loop in
-    let b = f .before .loop-test .taken in
-    omega (arith, within (a .s .now) (l .from) (l .inv .1 b) (f .field-end .result) (f .field-end .ensures))
+    let a = f .before .before .before .before .args in
+    let l = f .before .loop in
+    let b = f .loop-test .taken in
+    let q = end-noted (a .s .now) (l .from) (l .inv .1 b) (l .i) (a .t .count) b (l .inv .2) (a .t4) (l .inv .4) in
+    omega (arith, within (a .s .now) (l .from) (l .inv .1 b) (getD (a .t4) (l .i) 0) q)
 
 add-i : tie.Need-add-i Inv-loop μ-loop
 add-i c = search needs
@@ -176,20 +197,23 @@ loop-less c = search needs
 loop-again : tie.Need-loop-again Inv-loop μ-loop
 loop-again c =
     let f = c .before .before .before .before .before in
-    let a = f .before .before .before .before .before .before .args in
-    let l = f .before .before .loop in
-    let b = f .before .loop-test .taken in
+    let a = f .before .before .before .before .args in
+    let l = f .before .loop in
+    let b = f .loop-test .taken in
+    let q = end-noted (a .s .now) (l .from) (l .inv .1 b) (l .i) (a .t .count) b (l .inv .2) (a .t4) (l .inv .4) in
+    let e : ℕ = getD (a .t4) (l .i) 0 in
     let r = c .before .before .read in (
       omega arith,
-      parts (a .s .now) (l .from) (l .inv .1 b) (f .field-end .result) (f .field-end .ensures) (l .i) (a .t .count) b (l .inv .2) .1,
-      rest (a .s .now) (l .from) (l .inv .1 b) (f .field-end .result) (f .field-end .ensures) (l .i) (a .t .count) b (l .inv .2),
-      sym (read-field (a .s .now) (l .from) (l .inv .1 b) (f .field-end .result) (f .field-end .ensures) (l .i) (a .t .count) b (l .inv .2) (mayJoin (a .c .month) (a .c .schedule)) (a .c) (a .t .each) (l .values) (r .result) (r .ensures) (c .if1 .left)) ∙ l .inv .3,
+      parts (a .s .now) (l .from) (l .inv .1 b) e q (l .i) (a .t .count) b (l .inv .2) .1,
+      rest (a .s .now) (l .from) (l .inv .1 b) e q (l .i) (a .t .count) b (l .inv .2),
+      sym (read-field (a .s .now) (l .from) (l .inv .1 b) e q (l .i) (a .t .count) b (l .inv .2) (mayJoin (a .c .month) (a .c .schedule)) (a .c) (a .t .each) (l .values) (r .result) (r .ensures) (c .if1 .left)) ∙ l .inv .3,
+      noted (a .s .now) (l .from) (l .inv .1 b) e q (l .i) (a .t .count) b (l .inv .2) (a .t4) (l .inv .4) .1,
     )
 
 returns-2 : tie.Need-returns-2 Inv-loop μ-loop
 unfolding rowFrom
 returns-2 c =
-    let a = c .before .before .before .before .before .args in
+    let a = c .before .before .before .before .args in
     let l = c .before .loop in
     let w : left (l .i) (a .t .count) (a .s .now) (l .from) ≡ [] = left-none (l .i) (a .t .count) (a .s .now) (l .from) (c .loop-test .left) in
     rw w at (l .inv .3)
@@ -200,9 +224,9 @@ read-typed-spec =
     (tie.spec
     Inv-loop
     μ-loop
-    blank-requires
     loop-holds
-    field-end-requires
+    mul-to
+    array-read-to
     mul-read
     array-copy-out-read
     sub-read

@@ -3,8 +3,8 @@ use Prim.Native.Nat.{ℕ}
 use mathlib.Core.Path.{ap, ap₂, _∙_}
 use mathlib.Core.Bool.{Bool}
 use borrow.Author.Tests.{eq-eqb, ne-eqb}
-use Rattle.row.specs.Table.{rules111, rules181, rules201, onlyWith, drugCodeNeed, nameNeed, rulesFrom}
-use Rattle.row.specs.Code.Walk.{tableOf, needWith, drugNeed, nameNeedOf}
+use Rattle.row.specs.Table.{rules111, rules181, rules201, onlyWith, drugCodeNeed, nameNeed, rulesFrom, tableOf}
+use Rattle.row.specs.Code.Walk.{needWith, drugNeed, nameNeedOf}
 use borrow.Author.Needs.{needs}
 use Rattle.row.proofs.rules_of.Statement.{statement}
 use Rattle.row.proofs.rules_of.Tie as tie

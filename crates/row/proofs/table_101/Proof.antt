@@ -1,4 +1,5 @@
 -- The rules of 101, in nine cells.
+use mathlib.Core.List.{[], _∷_}
 use borrow.Author.Needs.{needs}
 use Rattle.row.proofs.table_101.Statement.{statement}
 use Rattle.row.proofs.table_101.Tie as tie
@@ -19,7 +20,13 @@ rule-requires-5 : tie.Need-rule-requires-5
 rule-requires-5 c κs = search needs
 
 returns : tie.Need-returns
-returns c = cc
+returns c =
+    let u = c .before .before .before .before .rule .ensures in
+    let r1 = c .before .before .before .rule2 .ensures in
+    let r2 = c .before .before .rule3 .ensures in
+    let r3 = c .before .rule4 .ensures in
+    let r4 = c .rule5 .ensures in
+    λ i. record { count = 4; each = r1 i ∷ r2 i ∷ r3 i ∷ r4 i ∷ u i ∷ u i ∷ u i ∷ u i ∷ u i ∷ [] }
 
 pub table-101-spec : {M : Type 1} → statement M
 table-101-spec =

@@ -1,4 +1,5 @@
 -- The rules of 111, in nine cells.
+use mathlib.Core.List.{[], _∷_}
 use borrow.Author.Needs.{needs}
 use Rattle.row.proofs.table_111.Statement.{statement}
 use Rattle.row.proofs.table_111.Tie as tie
@@ -22,7 +23,14 @@ rule-requires-6 : tie.Need-rule-requires-6
 rule-requires-6 c κs = search needs
 
 returns : tie.Need-returns
-returns c = cc
+returns c =
+    let u = c .before .before .before .before .before .rule .ensures in
+    let r1 = c .before .before .before .before .rule2 .ensures in
+    let r2 = c .before .before .before .rule3 .ensures in
+    let r3 = c .before .before .rule4 .ensures in
+    let r4 = c .before .rule5 .ensures in
+    let r5 = c .rule6 .ensures in
+    λ i. record { count = 5; each = r1 i ∷ r2 i ∷ r3 i ∷ r4 i ∷ r5 i ∷ u i ∷ u i ∷ u i ∷ u i ∷ [] }
 
 pub table-111-spec : {M : Type 1} → statement M
 table-111-spec =

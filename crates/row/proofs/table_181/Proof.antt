@@ -1,4 +1,5 @@
 -- The rules of 181, in nine cells.
+use mathlib.Core.List.{[], _∷_}
 use borrow.Author.Needs.{needs}
 use Rattle.row.proofs.table_181.Statement.{statement}
 use Rattle.row.proofs.table_181.Tie as tie
@@ -25,7 +26,15 @@ rule-requires-7 : tie.Need-rule-requires-7
 rule-requires-7 c κs = search needs
 
 returns : tie.Need-returns
-returns c = cc
+returns c =
+    let u = c .before .before .before .before .before .before .rule .ensures in
+    let r1 = c .before .before .before .before .before .rule2 .ensures in
+    let r2 = c .before .before .before .before .rule3 .ensures in
+    let r3 = c .before .before .before .rule4 .ensures in
+    let r4 = c .before .before .rule5 .ensures in
+    let r5 = c .before .rule6 .ensures in
+    let r6 = c .rule7 .ensures in
+    λ i. record { count = 6; each = r1 i ∷ r2 i ∷ r3 i ∷ r4 i ∷ r5 i ∷ r6 i ∷ u i ∷ u i ∷ u i ∷ [] }
 
 pub table-181-spec : {M : Type 1} → statement M
 table-181-spec =

@@ -1,4 +1,5 @@
 -- The rules of 201, in nine cells.
+use mathlib.Core.List.{[], _∷_}
 use borrow.Author.Needs.{needs}
 use Rattle.row.proofs.table_201.Statement.{statement}
 use Rattle.row.proofs.table_201.Tie as tie
@@ -31,7 +32,17 @@ rule-requires-9 : tie.Need-rule-requires-9
 rule-requires-9 c κs = search needs
 
 returns : tie.Need-returns
-returns c = cc
+returns c =
+    let r1 = c .before .before .before .before .before .before .before .before .rule .ensures in
+    let r2 = c .before .before .before .before .before .before .before .rule2 .ensures in
+    let r3 = c .before .before .before .before .before .before .rule3 .ensures in
+    let r4 = c .before .before .before .before .before .rule4 .ensures in
+    let r5 = c .before .before .before .before .rule5 .ensures in
+    let r6 = c .before .before .before .rule6 .ensures in
+    let r7 = c .before .before .rule7 .ensures in
+    let r8 = c .before .rule8 .ensures in
+    let r9 = c .rule9 .ensures in
+    λ i. record { count = 9; each = r1 i ∷ r2 i ∷ r3 i ∷ r4 i ∷ r5 i ∷ r6 i ∷ r7 i ∷ r8 i ∷ r9 i ∷ [] }
 
 pub table-201-spec : {M : Type 1} → statement M
 table-201-spec =

@@ -1,5 +1,7 @@
 -- The rules of 201.
+use mathlib.Core.Path.{_∙_}
 use borrow.Author.Needs.{needs}
+use Rattle.row.specs.Table.{rules201, tableOf}
 use Rattle.row.proofs.table_of_drug.Statement.{statement}
 use Rattle.row.proofs.table_of_drug.Tie as tie
 
@@ -13,7 +15,7 @@ table-201-requires : tie.Need-table-201-requires
 table-201-requires c κs = search needs
 
 returns : tie.Need-returns
-returns c = cc
+returns c = c .table-201 .ensures ∙ (λ i. tableOf (rules201 (c .before .before .drug-code-need .ensures i) (c .before .name-need .ensures i)))
 
 pub table-of-drug-spec : {M : Type 1} → statement M
 table-of-drug-spec =

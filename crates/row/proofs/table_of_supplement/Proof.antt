@@ -1,5 +1,7 @@
 -- The rules of 181.
+use mathlib.Core.Path.{_∙_}
 use borrow.Author.Needs.{needs}
+use Rattle.row.specs.Table.{rules181, tableOf}
 use Rattle.row.proofs.table_of_supplement.Statement.{statement}
 use Rattle.row.proofs.table_of_supplement.Tie as tie
 
@@ -13,7 +15,7 @@ table-181-requires : tie.Need-table-181-requires
 table-181-requires c κs = search needs
 
 returns : tie.Need-returns
-returns c = cc
+returns c = c .table-181 .ensures ∙ (λ i. tableOf (rules181 (c .before .before .need-with .ensures i) (c .before .need-with2 .ensures i)))
 
 pub table-of-supplement-spec : {M : Type 1} → statement M
 table-of-supplement-spec =

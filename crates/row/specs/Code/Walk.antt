@@ -1,20 +1,20 @@
 -- The fields of a line walked along the file.
 -- Assumes nothing.
-use Prim.Native.Nat.{ℕ, _+_, _-_}
-use mathlib.Core.Bool.{Bool, cond}
-use mathlib.Core.List.{List, [], _∷_, _++_}
-use lib.Dec.{eqb}
-use lib.ListN.{length, getD, set, replicate}
+use Prim.Native.Nat.{ℕ, _+_}
+use mathlib.Core.Bool.{Bool, true, cond, _&&_}
+use mathlib.Core.List.{List, [], _∷_}
+use lib.Dec.{eqb, ltb}
+use lib.ListN.{length, getD, set}
 use Rattle.supplement.specs.declared.Supplement.{Supplement}
-use Rattle.field.specs.Field.{rule, free, required, forbidden, readField}
+use Rattle.field.specs.Field.{free, required, forbidden, readField}
 use Rattle.field.specs.declared.Rule.{Rule}
 use Rattle.field.specs.declared.Sofar.{Sofar}
 use Rattle.field.specs.declared.Field.{Field}
-use Rattle.row.specs.Table.{keptRule}
+use Rattle.row.specs.Table.{noRule, keptRule}
 use Rattle.row.specs.Row.{blanks, refusedAt}
 use Rattle.row.specs.declared.Value.{Value}
 use Rattle.row.specs.declared.Row.{Row}
-use Rattle.row.specs.declared.Rules.{Rules}
+use Rattle.row.specs.declared.Cut.{Cut}
 
 -- Required with a kind, else forbidden.
 unfoldable pub needWith : ℕ → ℕ → ℕ
@@ -27,14 +27,6 @@ drugNeed kind = cond (eqb kind 0x31) forbidden (cond (eqb kind 0x37) free requir
 -- Whether a drug's name may be empty, by the code kind and whether the code names no listed drug.
 unfoldable pub nameNeedOf : ℕ → Bool → ℕ
 nameNeedOf kind unlisted = cond unlisted required (cond (eqb kind 0x32) free required)
-
--- A rule of no field.
-abbrev pub noRule : Rule
-noRule = rule 0 0 0 0
-
--- Rules in nine cells.
-abbrev pub tableOf : List Rule → Rules
-tableOf rs = record { count = length rs; each = rs ++ replicate (9 - length rs) noRule }
 
 -- What was read of a field at an offset.
 abbrev pub valueOf : ℕ → List ℕ → Field → Value
@@ -54,3 +46,18 @@ keptFrom joins c i from [] = record { number = 0; field = 0; code = 0; place = 0
 keptFrom joins c i from (f ∷ fs) =
     cond (eqb (readField joins c keptRule f .number) 0) (keptFrom joins c (i + 1) (from + length f + 1) fs)
     (refusedAt i (readField joins c keptRule f))
+
+-- How many fields a record of the table has.
+unfoldable pub widthOf : ℕ → ℕ
+widthOf n = cond (eqb n 51) 1 (cond (eqb n 101) 4 (cond (eqb n 111) 5 (cond (eqb n 181) 6 9)))
+
+-- Where the fields of a line end, from the one with k before it on, which begins at `at`: how many they are, and the first nine ends.
+unfoldable pub cutFrom : ℕ → ℕ → List (List ℕ) → List ℕ → Cut
+cutFrom k at [] ends = record { count = k; ends = ends }
+cutFrom k at (f ∷ fs) ends =
+    cond (ltb k 9) (cutFrom (k + 1) (at + length f + 1) fs (set ends k (at + length f))) (record { count = 10; ends = ends })
+
+-- The fields, of which the first begins at `at`, end at these offsets, from the ith on.
+unfoldable pub marks : List ℕ → ℕ → ℕ → List (List ℕ) → Bool
+marks ends i at [] = true
+marks ends i at (f ∷ fs) = eqb (getD ends i 0) (at + length f) && marks ends (i + 1) (at + length f + 1) fs

@@ -1,0 +1,90 @@
+-- Each turn notes where the next field ends, and leaves those after its comma.
+use native.Mathlib.Omega.{arith}
+use Prim.Native.Nat.{_+_, _-_, _≤_}
+use mathlib.Core.Path.{_≡_, refl, sym, _∙_}
+use borrow.Author.Needs.{needs}
+use lib.ListN.{length, replicate}
+use Rattle.row.specs.Row.{fieldsAt}
+use Rattle.row.specs.Code.Walk.{cutFrom}
+use Rattle.row.proofs.Walk.{more-fit}
+use Rattle.row.proofs.Parted.{cut-last, cut-more, cut-full}
+use Rattle.row.proofs.part_line.Statement.{statement}
+use Rattle.row.proofs.part_line.Tie as tie
+
+abbrev Inv-loop : tie.InvT-loop
+Inv-loop s at ends₀ from₀ k₀ ends from k =
+    (k ≤ 9) × (from ≤ length s) × (cutFrom k from (fieldsAt s from) ends ≡ cutFrom 0 at (fieldsAt s at) (replicate 9 0))
+
+abbrev μ-loop : tie.MeasureT-loop
+μ-loop s at ends₀ from₀ k₀ ends from k = 9 - k
+
+loop-holds : tie.Need-loop-holds Inv-loop μ-loop
+loop-holds c = (omega arith, omega arith, refl)
+
+field-end-requires : tie.Need-field-end-requires Inv-loop μ-loop
+field-end-requires c κs = tt
+
+mul-ends : tie.Need-mul-ends Inv-loop μ-loop
+mul-ends c = search needs
+
+array-write-ends : tie.Need-array-write-ends Inv-loop μ-loop
+array-write-ends c = search needs
+
+add-k : tie.Need-add-k Inv-loop μ-loop
+add-k c = search needs
+
+line-ends-requires : tie.Need-line-ends-requires Inv-loop μ-loop
+line-ends-requires c κs = tt
+
+returns : tie.Need-returns Inv-loop μ-loop
+returns c =
+    let a = c .before .before .before .before .before .before .args in
+    let l = c .before .before .before .before .loop in
+    let e = c .before .before .field-end in
+    sym (cut-last (a .s .now) (l .from) (l .inv .1) (l .k) (l .ends) (e .result) (e .ensures) (omega arith) (sym (c .before .line-ends .ensures) ∙ c .if1 .taken))
+    ∙ l .inv .2
+
+add-from : tie.Need-add-from Inv-loop μ-loop
+add-from c =
+    let a = c .before .before .before .before .before .before .args in
+    let l = c .before .before .before .before .loop in
+    let e = c .before .before .field-end in
+    let f : e .result + 1 ≤ length (a .s .now) =
+    more-fit (a .s .now) (l .from) (l .inv .1) (e .result) (e .ensures) (sym (c .before .line-ends .ensures) ∙ c .if1 .left) in
+    omega (arith, f)
+
+loop-less : tie.Need-loop-less Inv-loop μ-loop
+loop-less c = search needs
+
+loop-again : tie.Need-loop-again Inv-loop μ-loop
+loop-again c =
+    let a = c .before .before .before .before .before .before .args in
+    let l = c .before .before .before .before .loop in
+    let e = c .before .before .field-end in
+    let f : e .result + 1 ≤ length (a .s .now) =
+    more-fit (a .s .now) (l .from) (l .inv .1) (e .result) (e .ensures) (sym (c .before .line-ends .ensures) ∙ c .if1 .left) in
+    (omega arith, f, sym (cut-more (a .s .now) (l .from) (l .inv .1) (l .k) (l .ends) (e .result) (e .ensures) (omega arith) (sym (c .before .line-ends .ensures) ∙ c .if1 .left)) ∙ l .inv .2)
+
+returns-2 : tie.Need-returns-2 Inv-loop μ-loop
+returns-2 c =
+    let a = c .before .before .before .args in
+    let l = c .before .loop in
+    sym (cut-full (a .s .now) (l .from) (l .inv .1) (l .k) (l .ends) (omega arith)) ∙ l .inv .2
+
+pub part-line-spec : {M : Type 1} → statement M
+part-line-spec =
+    tie.close
+    (tie.spec
+    Inv-loop
+    μ-loop
+    loop-holds
+    field-end-requires
+    mul-ends
+    array-write-ends
+    add-k
+    line-ends-requires
+    returns
+    add-from
+    loop-less
+    loop-again
+    returns-2)
