@@ -242,11 +242,17 @@ fn singles(built: &[Vec<Vec<u8>>], corpus: &[(String, Vec<u8>)]) {
     });
 }
 
-/// Begins and ends what `bench/count` counts.
+/// Begins and ends what `bench/run count` counts by the emulator.
 #[inline(never)]
 #[no_mangle]
 pub extern "C" fn bench_mark(what: usize) -> usize {
     seen(what)
+}
+
+/// What it counts by callgrind, which knows functions.
+#[inline(never)]
+fn bench_counted(side: &Side, work: Work, sheet: &[u8], out: &mut [u8]) -> Answer {
+    side.work(work, sheet, out)
 }
 
 /// One work of one side on one sheet, between two marks.
@@ -258,7 +264,7 @@ fn one(side: &str, work: &str, sheet: &Path) -> io::Result<()> {
             // Once before, so that what is done once in a process is not counted.
             seen(side.work(*work, &sheet, &mut out)).ok();
             bench_mark(1);
-            let answer = side.work(*work, &sheet, &mut out);
+            let answer = bench_counted(side, *work, &sheet, &mut out);
             bench_mark(2);
             println!("{:?}", answer);
         }
