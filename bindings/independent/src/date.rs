@@ -85,7 +85,7 @@ pub(crate) const fn longest_month(month: u8) -> u8 {
 
 /// "From 1868 to 2099 … The day must exist (Gregorian)."
 fn exists(year: u16, month: u8, day: u8) -> bool {
-    let leap = year.is_multiple_of(4) && (!year.is_multiple_of(100) || year.is_multiple_of(400));
+    let leap = year % 4 == 0 && (year % 100 != 0 || year % 400 == 0);
     let last = longest_month(month) - u8::from(month == 2 && !leap);
     (1868..=2099).contains(&year) && (1..=12).contains(&month) && (1..=last).contains(&day)
 }

@@ -44,7 +44,7 @@ pub fn read_run(issue: u8, run: &[u8]) -> Result<DaySet, RunRefusal> {
     if !(1..=12).contains(&issue) {
         return refuse(10, 0, 0);
     }
-    if !run.len().is_multiple_of(CODE) {
+    if run.len() % CODE != 0 {
         return refuse(1, 0, 0);
     }
     if run.is_empty() {
@@ -58,7 +58,7 @@ pub fn read_run(issue: u8, run: &[u8]) -> Result<DaySet, RunRefusal> {
             Ok(Supplement::Dates(dates)) => dates,
             Ok(_) => return refuse(12, number, 0),
         };
-        if before.is_some_and(|before| !follows(issue, &before, &dates)) {
+        if before.map_or(false, |before| !follows(issue, &before, &dates)) {
             return refuse(12, number, 0);
         }
         set.0[usize::from(dates.month)] |= dates.days;
@@ -76,10 +76,8 @@ pub fn write_run(issue: u8, set: &DaySet, buffer: &mut [u8]) -> Result<usize, Re
     if !is_writable(set) {
         return Err(Refusal::new(11, 0));
     }
-    let codes = set.0.iter().map(|days| days.count_ones().div_ceil(6) as usize).sum::<usize>();
-    let Some(buffer) = buffer.get_mut(..CODE * codes) else {
-        return Err(Refusal::new(33, 0));
-    };
+    let codes = set.0.iter().map(|days| ((days.count_ones() + 5) / 6) as usize).sum::<usize>();
+    let buffer = buffer.get_mut(..CODE * codes).ok_or_else(|| Refusal::new(33, 0))?;
     let ahead = (issue..=12).chain(1..issue);
     let mut cells = buffer.chunks_exact_mut(CODE);
     for month in std::iter::once(0).chain(ahead) {

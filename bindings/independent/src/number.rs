@@ -36,7 +36,7 @@ impl<const N: usize> Short<N> {
     }
 
     fn push_number(&mut self, n: u64) {
-        let digits = n.checked_ilog10().map_or(1, |l| l as usize + 1);
+        let digits = digits_of(n);
         let mut left = n;
         for cell in self.bytes[self.length..self.length + digits].iter_mut().rev() {
             *cell = b'0' + (left % 10) as u8;
@@ -60,6 +60,16 @@ pub fn read(text: &[u8]) -> Option<u32> {
 /// At most nineteen digits as a number.
 fn digits(text: &[u8]) -> Option<u64> {
     text.iter().try_fold(0, |n, &c| c.is_ascii_digit().then(|| n * 10 + u64::from(c - b'0')))
+}
+
+/// How many digits a number has.
+pub(crate) fn digits_of(n: u64) -> usize {
+    let (mut left, mut digits) = (n / 10, 1);
+    while left != 0 {
+        left /= 10;
+        digits += 1;
+    }
+    digits
 }
 
 /// Writes a number.

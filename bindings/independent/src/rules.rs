@@ -254,7 +254,7 @@ impl<'a> RawExtra<'a> {
         let kind = optional_number(self.kind, 1..=99).map_err(field(3))?;
         let text = required_text(self.text, 100).map_err(field(4))?;
         let supplement = code_with(kind == Some(8), self.supplement, 5)?;
-        if supplement.is_some_and(|s| !order.takes_supplement(&s)) {
+        if supplement.map_or(false, |s| !order.takes_supplement(&s)) {
             return Err(field(5)(31));
         }
         let site = site_with(kind == Some(9), self.site).map_err(field(6))?;

@@ -1,6 +1,7 @@
 //! Supplementary codes: eight characters, led by I, W, D, C or V.
 
 use crate::date::longest_month;
+use crate::number::digits_of;
 use crate::{zeros_from, Refusal};
 
 /// What a supplementary code says.
@@ -261,7 +262,7 @@ fn write_unequal(code: &mut Code, unequal: &Unequal) -> Option<()> {
     let columns = &mut code[2..];
     columns.fill(b'N');
     let places = usize::from(unequal.places);
-    let shown = (unequal.digits.checked_ilog10().map_or(1, |l| l as usize + 1)).max(places + 1);
+    let shown = digits_of(u64::from(unequal.digits)).max(places + 1);
     let width = shown + usize::from(places > 0);
     let columns = columns.get_mut(..width)?;
     let mut left = unequal.digits;
@@ -356,8 +357,8 @@ mod tests {
         let end = columns.iter().rposition(|&c| c != b'N').map_or(0, |last| last + 1);
         let mut parts = columns[..end].split(|&c| c == b'.');
         let digits = |part: &[u8]| !part.is_empty() && part.iter().all(u8::is_ascii_digit);
-        let whole = parts.next().is_some_and(|w| digits(w) && (w.len() == 1 || w[0] != b'0'));
-        whole && parts.next().is_none_or(digits) && parts.next().is_none()
+        let whole = parts.next().map_or(false, |w| digits(w) && (w.len() == 1 || w[0] != b'0'));
+        whole && parts.next().map_or(true, digits) && parts.next().is_none()
     }
 
     /// "5 names the first column at which no allowed amount agrees", over all columns of a few
