@@ -35,37 +35,53 @@ fn wide_space(a: u8, b: u8) -> bool
     (a == 0x81) & (b == 0x40)
 }
 
-// The bytes from a place where a character begins; `space` says that the character before it is a space, which may not be the last.
+// The bytes from a place where a character begins; `space` says that the character before it is a space, which may not be the last. Bytes that are
+// characters by themselves are passed here, pairs by the other scanner.
 fn at_character(s: &[u8], at: usize, space: bool) -> bool
     requires { ⌜ at ≤ length (now s) ⌝ }
     ensures { λ r. ⌜ r ≡ rest space (characters (drop at (now (s .entry)))) ⌝ }
 {
-    if at == s.len() {
-        return !space;
+    let mut spaced = space;
+    let mut i = at;
+    while i < s.len() {
+        let b = s[i];
+        if lead(b) {
+            return at_second(s, i + 1, b);
+        }
+        if single(b) {
+            spaced = b == b' ';
+            i += 1;
+        } else {
+            return false;
+        }
     }
-    let b = s[at];
-    if lead(b) {
-        return at_second(s, at + 1, b);
-    }
-    if single(b) {
-        return at_character(s, at + 1, b == b' ');
-    }
-    false
+    !spaced
 }
 
-// The bytes from the second byte of a pair on, whose first byte is `a`.
+// The bytes from the second byte of a pair on, whose first byte is `a`, and on from pair to pair.
 fn at_second(s: &[u8], at: usize, a: u8) -> bool
     requires { ⌜ at ≤ length (now s) ⌝ }
     ensures { λ r. ⌜ r ≡ rest false (led (drop at (now (s .entry))) a) ⌝ }
 {
-    if at == s.len() {
-        return false; // half a pair
+    let mut first = a;
+    let mut i = at;
+    while i < s.len() {
+        let b = s[i];
+        if !second(b) {
+            return false;
+        }
+        i += 1;
+        if i == s.len() {
+            return !wide_space(first, b);
+        }
+        let c = s[i];
+        if !lead(c) {
+            return at_character(s, i, wide_space(first, b));
+        }
+        first = c;
+        i += 1;
     }
-    let b = s[at];
-    if second(b) {
-        return at_character(s, at + 1, wide_space(a, b));
-    }
-    false
+    false // half a pair
 }
 
 // Is the first character a space?
