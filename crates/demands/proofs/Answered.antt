@@ -2,7 +2,7 @@
 -- Assumes nothing.
 use Prim.Native.Nat.{ℕ, _/_}
 use mathlib.Core.Path.{_≡_, refl, sym, ap₂}
-use mathlib.Core.Bool.{Bool, true, false}
+use mathlib.Core.Bool.{true}
 use mathlib.Core.List.{List, _++_}
 use native.Mathlib.Omega.{arith}
 use borrow.Author.Tests.{leb-true, leb-false}
@@ -23,6 +23,7 @@ use Rattle.supplement_writer.specs.Writes.{WritesSupplement}
 use Rattle.supplement_writer.specs.declared.Written.{Written as WrittenSupplement}
 use Rattle.supplement_writer.proofs.Writing as supplementWriter
 use Rattle.supplement_writer.proofs.Laws as supplementLaws
+use Rattle.order.proofs.Bools.{clash}
 use Rattle.days.specs.Run.{takes, aMonth, readRun}
 use Rattle.days.specs.Set.{writable, WritesSet}
 use Rattle.days.specs.Code.Print.{printed}
@@ -61,23 +62,20 @@ module _ (issue : ℕ) (cells before : List ℕ) where
         only = λ v h. let e = days.one-written issue cells before (v .0) after (v .1) w h k in ap₂ (λ (x : List ℕ) (y : Wrote). (x, y)) (e .0) (e .1);
       }
 
-  clash : {P : Type 0} (b : Bool) → b ≡ true → b ≡ false → P
-  clash b t f = absurd (let z : _≡_ {A = ℕ} 0 1 = cc in omega arith)
-
   -- the run for a set that can be written
   run-writes : (r : List ℕ) → readRun issue r ≡ takes cells → aMonth issue ≡ true → writable cells ≡ true → One (List ℕ × Wrote) Promise
   run-writes r h m c =
       split (leb (length r) (length before))
       (λ a. one (r ++ drop (length r) before) (Codes (length r / 8))
       (record {
-        noMonth = λ f. clash _ m f;
-        cannot = λ t f. clash _ c f;
+        noMonth = λ f. clash m f;
+        cannot = λ t f. clash c f;
         can = λ t u. record { run = r; reads = h; short = λ l. absurd (omega (arith, leb-true (length r) (length before) a)); fits = λ l. (refl, refl) };
       }))
       (λ a. one before (Refused (fault 33 0))
       (record {
-        noMonth = λ f. clash _ m f;
-        cannot = λ t f. clash _ c f;
+        noMonth = λ f. clash m f;
+        cannot = λ t f. clash c f;
         can = λ t u. record { run = r; reads = h; short = λ l. (refl, refl); fits = λ l. absurd (omega (arith, leb-false (length r) (length before) a)) };
       }))
 
@@ -87,6 +85,6 @@ module _ (issue : ℕ) (cells before : List ℕ) where
       split (aMonth issue)
       (λ m. split (writable cells) (λ c. run-writes (printed issue cells) (days.can-be-written issue cells m l c) m c)
       (λ c. one before (Refused (fault 11 0))
-      (record { noMonth = λ f. clash _ m f; cannot = λ t f. (refl, refl); can = λ t u. clash _ u c })))
+      (record { noMonth = λ f. clash m f; cannot = λ t f. (refl, refl); can = λ t u. clash u c })))
       (λ m. one before (Refused (fault 10 0))
-      (record { noMonth = λ f. (refl, refl); cannot = λ t f. clash _ t m; can = λ t u. clash _ t m }))
+      (record { noMonth = λ f. (refl, refl); cannot = λ t f. clash t m; can = λ t u. clash t m }))

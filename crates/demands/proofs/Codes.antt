@@ -3,6 +3,7 @@
 -- Assumes nothing.
 use Prim.Native.Nat.{ℕ, zero, suc, _+_, _-_, _≤_}
 use mathlib.Core.Path.{_≡_, refl, ap, subst}
+use mathlib.Core.Bool.{cond}
 use mathlib.Core.List.{List, [], _∷_, _++_}
 use mathlib.Core.Logic.{_↔_}
 use native.Mathlib.Omega.{arith}
@@ -68,6 +69,30 @@ module _ (P : ℕ → ℕ → Type 0) where
     none-at-fault (t ∷ ts) h k =
         split (t .passed) (λ e. (e, none-at-fault ts (h .1) (simp e at k))) (λ e. absurd (some (t .number) (t .place) (h .0) (simp e at k)))
 
+  -- a code with so many characters, where it should have `size`, and these tests: what is told where it is refused,
+  code-refused : {A : Type 0} (l size : ℕ) (ts : List Test) (a : A) (n p : ℕ) → P 1 0 → All ts →
+      cond (eqb l size) (judge (first ts) a) (refused 1 0) ≡ refused n p → P n p
+  code-refused l size ts a n p g h k =
+      split (eqb l size) (λ e. judged ts a n p h (simp e at k))
+      (λ e.
+      let q = simp e at k in
+      let d : 1 ≡ n = cc in
+      let f : 0 ≡ p = cc in
+      subst (λ (m : ℕ). P m p) d (subst (P 1) f g))
+
+  -- and when it is taken
+  code-taken : {A : Type 0} (l size : ℕ) (ts : List Test) (a x : A) → ((n p : ℕ) → P n p → n ≡ 0 → ⊥) → All ts →
+      cond (eqb l size) (judge (first ts) a) (refused 1 0) ≡ took x ↔ ((l ≡ size) × Passes ts × (a ≡ x))
+  code-taken {A} l size ts a x some h = (there, back)
+    where
+      there : cond (eqb l size) (judge (first ts) a) (refused 1 0) ≡ took x → (l ≡ size) × Passes ts × (a ≡ x)
+      there k =
+          split (eqb l size) (λ e. let t = taken ts a x (simp e at k) in (eqb-true _ _ e, none-at-fault some ts h (t .0), t .1))
+          (λ e. absurd (let q = simp e at k in let z : _≡_ {A = ℕ} 0 1 = cc in omega arith))
+
+      back : (l ≡ size) × Passes ts × (a ≡ x) → cond (eqb l size) (judge (first ts) a) (refused 1 0) ≡ took x
+      back t = simp (eq-eqb l size (t .0), eq-eqb _ _ (all-passed ts (t .1))) (ap took (t .2))
+
   -- a row of cells, whose characters stand at lo to hi
   module _ (Q : Cell → Type 0) (lo hi : ℕ) (six : (p : ℕ) → lo ≤ p → p ≤ hi → P 6 p)
       (cell : (x : Cell) → Q x → (p b c : ℕ) → lo ≤ p → p ≤ hi → All (tests x p b c)) where
@@ -131,12 +156,7 @@ usage-tests s = (class, (detail, (kind, timing-tests s)))
 -- A usage code that is refused has one of the table's numbers, with its place.
 pub usage-refused : (s : List ℕ) (n p : ℕ) → usage.readUsage s ≡ refused n p → UsageNumber n p
 unfolding usage.readUsage
-usage-refused s n p h =
-    split (eqb (length s) 16) (λ a. judged UsageNumber (usage.frame s ++ usage.timing s) (usage.says s) n p (usage-tests s) (simp a at h))
-    (λ a. let k = simp a at h in
-    let d : 1 ≡ n = cc in
-    let e : 0 ≡ p = cc in
-    subst (λ (m : ℕ). UsageNumber m p) d (subst (UsageNumber 1) e notSixteen))
+usage-refused s n p h = code-refused UsageNumber (length s) 16 (usage.frame s ++ usage.timing s) (usage.says s) n p notSixteen (usage-tests s) h
 
 -- no row of the table has the number 0
 usage-some : (n p : ℕ) → UsageNumber n p → n ≡ 0 → ⊥
@@ -155,18 +175,9 @@ usage-some n p (hour l h) e = omega arith
 -- It is taken exactly when it has sixteen characters that pass every test, and what is read is what they say.
 pub usage-taken : (s : List ℕ) (i : Instruction) → usage.readUsage s ≡ took i ↔ TakenUsage s i
 unfolding usage.readUsage
-usage-taken s i = (there, back)
-  where
-    there : usage.readUsage s ≡ took i → TakenUsage s i
-    there h =
-        split (eqb (length s) 16)
-        (λ a. let k = taken (usage.frame s ++ usage.timing s) (usage.says s) i (simp a at h) in
-        record { sixteen = eqb-true _ _ a; passes = none-at-fault UsageNumber usage-some (usage.frame s ++ usage.timing s) (usage-tests s) (k .0); is = k .1 })
-        (λ a. absurd (let k = simp a at h in let z : _≡_ {A = ℕ} 0 1 = cc in omega arith))
-
-    back : TakenUsage s i → usage.readUsage s ≡ took i
-    back t =
-        simp (eq-eqb _ _ (t .sixteen), eq-eqb _ _ (all-passed (usage.frame s ++ usage.timing s) (t .passes))) (ap took (t .is))
+usage-taken s i =
+    let k = code-taken UsageNumber (length s) 16 (usage.frame s ++ usage.timing s) (usage.says s) i usage-some (usage-tests s) in
+    (λ h. let t = k .0 h in record { sixteen = t .0; passes = t .1; is = t .2 }, λ t. k .1 (t .sixteen, t .passes, t .is))
 
 -- ---- supplementary codes
 -- their cells may be any
@@ -203,12 +214,7 @@ supplement-tests s = (letter, rest-tests s)
 -- A supplementary code that is refused has one of the table's numbers, with its place.
 pub supplement-refused : (s : List ℕ) (n p : ℕ) → supplement.readSupplement s ≡ refused n p → SupplementNumber n p
 unfolding supplement.readSupplement
-supplement-refused s n p h =
-    split (eqb (length s) 8) (λ a. judged SupplementNumber (supplement.tests s) (supplement.says s) n p (supplement-tests s) (simp a at h))
-    (λ a. let k = simp a at h in
-    let d : 1 ≡ n = cc in
-    let e : 0 ≡ p = cc in
-    subst (λ (m : ℕ). SupplementNumber m p) d (subst (SupplementNumber 1) e notEight))
+supplement-refused s n p h = code-refused SupplementNumber (length s) 8 (supplement.tests s) (supplement.says s) n p notEight (supplement-tests s) h
 
 -- no row of the table has the number 0
 pub supplement-some : (n p : ℕ) → SupplementNumber n p → n ≡ 0 → ⊥
@@ -222,15 +228,6 @@ supplement-some n p (numbers.SupplementNumber.rising l h) e = omega arith
 -- It is taken exactly when it has eight characters that pass every test, and what is read is what they say.
 pub supplement-taken : (s : List ℕ) (x : Supplement) → supplement.readSupplement s ≡ took x ↔ TakenSupplement s x
 unfolding supplement.readSupplement
-supplement-taken s x = (there, back)
-  where
-    there : supplement.readSupplement s ≡ took x → TakenSupplement s x
-    there h =
-        split (eqb (length s) 8)
-        (λ a. let k = taken (supplement.tests s) (supplement.says s) x (simp a at h) in
-        record { eight = eqb-true _ _ a; passes = none-at-fault SupplementNumber supplement-some (supplement.tests s) (supplement-tests s) (k .0); is = k .1 })
-        (λ a. absurd (let k = simp a at h in let z : _≡_ {A = ℕ} 0 1 = cc in omega arith))
-
-    back : TakenSupplement s x → supplement.readSupplement s ≡ took x
-    back t =
-        simp (eq-eqb _ _ (t .eight), eq-eqb _ _ (all-passed (supplement.tests s) (t .passes))) (ap took (t .is))
+supplement-taken s x =
+    let k = code-taken SupplementNumber (length s) 8 (supplement.tests s) (supplement.says s) x supplement-some (supplement-tests s) in
+    (λ h. let t = k .0 h in record { eight = t .0; passes = t .1; is = t .2 }, λ t. k .1 (t .eight, t .passes, t .is))

@@ -1,27 +1,15 @@
 -- Demand 1. "Every file, code and record handed over gets an answer, and the work ends. A refusal is one of document 01's numbers, with its place, and
 -- changes no byte of a lent buffer. An answer that writes changes only the bytes it says it wrote."
--- `Numbers` has document 01's table of numbers and places, `Lent` what is said of lent bytes.
+-- `EachCall` has what is said call by call, `Numbers` document 01's table of numbers and places, `Lent` what is said of lent bytes.
 -- Assumes nothing.
-use Prim.Native.Nat.{ℕ, _*_, _/_, _≤_, _<_}
-use mathlib.Core.Path.{_≡_, _∙_, sym}
+use Prim.Native.Nat.{ℕ, _*_, _≤_, _<_}
+use mathlib.Core.Path.{_≡_, _∙_}
 use mathlib.Core.List.{List, map}
-use native.Mathlib.Omega.{arith}
 use lib.ListN.{length}
 use Rattle.cells.specs.Test.{took, refused}
 use Rattle.line.proofs.Laws.{Place}
-use Rattle.usage.specs.Usage.{readUsage}
-use Rattle.usage.specs.declared.Instruction.{Instruction}
-use Rattle.usage_writer.specs.Writes.{WritesUsage}
-use Rattle.usage_writer.specs.declared.Written.{Written as WrittenUsage}
-use Rattle.supplement.specs.Supplement.{readSupplement}
-use Rattle.supplement.specs.declared.Supplement.{Supplement}
-use Rattle.supplement_writer.specs.Writes.{WritesSupplement}
-use Rattle.supplement_writer.specs.declared.Written.{Written as WrittenSupplement}
-use Rattle.days.specs.Run.{readRun}
 use Rattle.days.specs.Set.{said, WritesSet}
 use Rattle.days.specs.declared.Wrote.{Wrote}
-use Rattle.date.specs.declared.Made.{Made}
-use Rattle.date.specs.declared.Made.the-variants.{Day, None}
 use Rattle.record.specs.declared.Record.{Record}
 use Rattle.record.specs.declared.Refusal.{Refusal}
 use Rattle.reader.specs.File.{stopped, readFile, numberOf}
@@ -29,11 +17,10 @@ use Rattle.reader.specs.Reader.{openFile, nextRecord, call, endingOf, told}
 use Rattle.reader.specs.declared.State.{State}
 use Rattle.reader.specs.declared.Handed.the-variants.{Record as Hands, Refused as Refuses, End}
 use Rattle.reader.proofs.Laws as reader
-use Rattle.demands.specs.One.{One}
-use Rattle.demands.specs.Numbers.{UsageNumber, SupplementNumber, RunNumber, SetNumber, saidDate, FileRefusal, OrderSays}
+use Rattle.demands.specs.EachCall.{Answered, NumberAndPlace}
+use Rattle.demands.specs.Numbers.{SetNumber, OrderSays}
 use Rattle.demands.specs.Lent.{OnlyBetween, Refusing, Call, handed, answer}
-use Rattle.demands.proofs.Answered as answered
-use Rattle.demands.proofs.Codes as codes
+use Rattle.demands.proofs.EachCall as eachCall
 use Rattle.demands.proofs.Runs as runs
 use Rattle.demands.proofs.Refusals as refusals
 use Rattle.demands.proofs.Verdicts as verdicts
@@ -43,17 +30,8 @@ use Rattle.demands.proofs.Writing as writing
 -- ---- "Every file, code and record handed over gets an answer"
 -- Reading a file, a code or a run, and each call of the reader and the writer, answer by a total function: `readFile`, `readUsage`, `readSupplement`,
 -- `readRun`, `nextRecord`, `answer`. Writing a code and writing a set of days answer by a promise: one answer meets it, and no other.
--- An instruction to write as a usage code,
-pub usage-answered : (i : Instruction) → One WrittenUsage (WritesUsage i)
-usage-answered = answered.usage-answered
-
--- a supplement to write as a supplementary code,
-pub supplement-answered : (x : Supplement) → One WrittenSupplement (WritesSupplement x)
-supplement-answered = answered.supplement-answered
-
--- and a set of days, which has thirteen cells, into a lent buffer: the answer comes with the buffer after it.
-pub set-answered : (issue : ℕ) (cells before : List ℕ) → length cells ≡ 13 → One (List ℕ × Wrote) (λ a. WritesSet issue cells before (a .0) (a .1))
-set-answered = answered.set-answered
+pub answered : Answered
+answered = eachCall.answered
 
 -- ---- "and the work ends."
 -- The call with n calls before it hands out the file's record n, counted from 0, and past them tells the end or the refusal.
@@ -81,50 +59,18 @@ pub ends-again : (s : List ℕ) (t : State) → nextRecord s t .next ≡ End →
 ends-again = reader.ever-ended
 
 -- ---- "A refusal is one of document 01's numbers, with its place"
--- Reading a usage code,
-pub usage-refused : (s : List ℕ) (n p : ℕ) → readUsage s ≡ refused n p → UsageNumber n p
-usage-refused = codes.usage-refused
+-- Call by call: reading a code, a run, a file; making a date; writing a code.
+pub number-and-place : NumberAndPlace
+number-and-place = eachCall.number-and-place
 
--- a supplementary code,
-pub supplement-refused : (s : List ℕ) (n p : ℕ) → readSupplement s ≡ refused n p → SupplementNumber n p
-supplement-refused = codes.supplement-refused
-
--- a run of date codes,
-pub run-refused : (issue : ℕ) (s : List ℕ) → (readRun issue s .number ≡ 0 → ⊥) →
-    RunNumber (length s / 8) (readRun issue s .number) (readRun issue s .place) (readRun issue s .code)
-run-refused = runs.run-refused
-
--- a file: on any call from opening on,
-pub file-refused : (s : List ℕ) (n : ℕ) (f : Refusal) → call n s (openFile s) ≡ Refuses f → FileRefusal s f
-file-refused s n f h = refusals.file-refused s f (calls.told-refused n (readFile s .records) (readFile s .ending) f (sym (each-call s n) ∙ h))
-
--- where 21 is told at the first byte where no well framed file agrees, or at the end;
+-- Of a file 21 is told at the first byte where no well framed file agrees, or at the end,
 pub frame-refused : (s : List ℕ) → openFile s .number ≡ 21 → Place s (openFile s .at)
 frame-refused = refusals.frame-refused
 
--- and 23, 24 and 32 by document 01's verdict on the record numbers;
+-- and 23, 24 and 32 by document 01's verdict on the record numbers.
 pub order-refused : (s : List ℕ) (f : Refusal) → openFile s .number ≡ 0 → readFile s .ending ≡ stopped f →
     OrderSays s (map numberOf (readFile s .records)) f
 order-refused = verdicts.order-says
-
--- in any state inside the file, once opened,
-pub call-refused : (s : List ℕ) (t : State) (f : Refusal) → t .number ≡ 0 → t .at < length s → nextRecord s t .next ≡ Refuses f → FileRefusal s f
-call-refused = refusals.call-refused
-
--- making a date,
-pub date-refused : (t : Made) (n p : ℕ) → saidDate t ≡ refused n p → (n ≡ 27) × (p ≡ 0)
-date-refused (Day t) n p h = absurd (let z : _≡_ {A = ℕ} 0 1 = cc in omega arith)
-date-refused None n p h = (cc, cc)
-
--- writing a usage code: "35 code record that no code reads as",
-pub usage-not-written : (i : Instruction) (w : WrittenUsage) → WritesUsage i w → (w .number ≡ 0 → ⊥) →
-    (w .number ≡ 35) × ((s : List ℕ) → readUsage s ≡ took i → ⊥)
-usage-not-written i w k z = let r = k .refuses z in (r .0, r .2)
-
--- and writing a supplementary code.
-pub supplement-not-written : (x : Supplement) (w : WrittenSupplement) → WritesSupplement x w → (w .number ≡ 0 → ⊥) →
-    (w .number ≡ 35) × ((s : List ℕ) → readSupplement s ≡ took x → ⊥)
-supplement-not-written x w k z = let r = k .refuses z in (r .0, r .2)
 
 -- ---- ", and changes no byte of a lent buffer"
 -- A set of days that is refused: 10, 11 or 33, and the buffer is as it was.

@@ -8,6 +8,7 @@ pub mod Codes
 pub mod Runs
 pub mod Calls
 pub mod Refusals
+pub mod EachCall
 pub mod Verdicts
 pub mod Writing
 -- demand 2,

@@ -31,7 +31,7 @@ use Rattle.row.specs.Table.{rules, counted}
 use Rattle.row.specs.Row.{fieldsAt, fine, fieldByField, valuesOf, readRow}
 use Rattle.row.specs.declared.Row.{Row}
 use Rattle.record.specs.Record.{start, after, supplements}
-use Rattle.record.specs.Line.{refusal, rowRefusal, readFields, recordNumber, readParts, lineAfter, lineAt}
+use Rattle.record.specs.Line.{refusal, rowRefusal, recordNumber, readParts, lineAfter, lineAt}
 use Rattle.record.specs.declared.Record.{Record}
 use Rattle.record.specs.declared.Refusal.{Refusal}
 use Rattle.record.specs.declared.Answer.{Answer}
@@ -42,6 +42,7 @@ use Rattle.reader.specs.Reader.{openFile, endAt, nextRecord, on as upon}
 use Rattle.reader.specs.declared.State.{State}
 use Rattle.reader.specs.declared.Handed.the-variants.{Refused as Refuses}
 use Rattle.reader.proofs.Lines.{opens, inside, line-fields, after-line}
+use Rattle.entry.proofs.Bridge.{by-refused}
 use Rattle.demands.specs.Numbers.{CodeNumber, RecordNumber, unknown, hopeless, missing, FieldNumber, need, text, value, order, atField, FileRefusal, tooLong, frame, version}
 use Rattle.demands.specs.Numbers as numbers
 use Rattle.demands.proofs.Codes.{usage-refused, supplement-refused}
@@ -140,24 +141,13 @@ pub by-parts : (P : Refusal → Type 0) (joins : Supplement → Bool) (c : Sofar
     ((n k : ℕ) → FieldNumber n → 1 ≤ k → k < length parts → P (atField n at k 0 0)) →
     ((n p k : ℕ) → CodeNumber n p → 1 ≤ k → k < length parts → P (atField 29 at k n p)) →
     (f : Refusal) → readParts joins c at parts ≡ Refused f → P f
-unfolding readParts readFields
+unfolding readParts
 by-parts P joins c at parts g n o f h =
-    let m : ℕ = recordNumber parts in
-    let from : ℕ = at + length (getD parts 0 []) + 1 in
-    cases (eqb (follow (c .last) (recordNumber parts)) 0)
-    (λ a.
-    cases (eqb (readRow joins c (recordNumber parts) (at + length (getD parts 0 []) + 1) (drop 1 parts) .number) 0)
-    (λ b. absurd (let k = simp (a, b) at h in let z : _≡_ {A = ℕ} 0 1 = cc in omega arith))
-    (λ b.
-    let k : Refused (rowRefusal at (readRow joins c m from (drop 1 parts))) ≡ Refused f = simp (a, b) at h in
-    let e : rowRefusal at (readRow joins c m from (drop 1 parts)) ≡ f = cc in
-    subst P e
+    by-refused joins c at (recordNumber parts) (at + length (getD parts 0 []) + 1) (drop 1 parts) f h
+    (λ z e. subst P e (g (follow (c .last) (recordNumber parts)) (by-order (c .last) (recordNumber parts) z)))
+    (λ y z e. subst P e
     (by-row joins c P at (length (drop 1 parts)) (λ w j d l u. n w j d l (omega (arith, length-drop 1 parts)))
-    (λ w p j d l u. o w p j d l (omega (arith, length-drop 1 parts))) m from (drop 1 parts) (omega arith) (g 25 numbers.RecordNumber.count) (eqb-false _ _ b))))
-    (λ a.
-    let k : Refused (refusal (follow (c .last) m) at) ≡ Refused f = simp a at h in
-    let e : refusal (follow (c .last) m) at ≡ f = cc in
-    subst P e (g (follow (c .last) m) (by-order (c .last) m (eqb-false _ _ a))))
+    (λ w p j d l u. o w p j d l (omega (arith, length-drop 1 parts))) (recordNumber parts) _ (drop 1 parts) (omega arith) (g 25 numbers.RecordNumber.count) z))
 
 -- ---- the lines of a file
 module _ (s : List ℕ) where

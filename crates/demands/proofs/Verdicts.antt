@@ -21,7 +21,7 @@ use Rattle.schedule.specs.Schedule.{list}
 use Rattle.field.specs.declared.Sofar.{Sofar}
 use Rattle.row.specs.Row.{fieldsAt, readRow}
 use Rattle.record.specs.Record.{start, after, supplements}
-use Rattle.record.specs.Line.{refusal, rowRefusal, recordNumber, readFields, readParts}
+use Rattle.record.specs.Line.{refusal, recordNumber, readParts}
 use Rattle.record.specs.declared.Record.{Record}
 use Rattle.record.specs.declared.Refusal.{Refusal}
 use Rattle.record.specs.declared.Answer.{Answer}
@@ -31,6 +31,7 @@ use Rattle.reader.specs.File.{File, stopped, closing, on, readLines, readFile, 
 use Rattle.reader.specs.Reader.{openFile}
 use Rattle.reader.proofs.Lines.{opens, line-fields, after-line}
 use Rattle.held.proofs.Taken.{taken}
+use Rattle.entry.proofs.Bridge.{by-refused}
 use Rattle.demands.specs.Numbers.{FieldNumber, need, text, value, OrderSays}
 use Rattle.demands.specs.Numbers as numbers
 use Rattle.demands.proofs.Refusals.{by-row}
@@ -59,22 +60,13 @@ module _ (joins : Supplement → Bool) (c : Sofar) (at : ℕ) (parts : List (Lis
   by-told : {P : Type 0} (f : Refusal) → readParts joins c at parts ≡ Refused f →
       ((follow (c .last) (recordNumber parts) ≡ 0 → ⊥) → f ≡ refusal (follow (c .last) (recordNumber parts)) at → P) →
       (follow (c .last) (recordNumber parts) ≡ 0 → f .at ≡ at → OfFields (f .number) → P) → P
-  unfolding readParts readFields
+  unfolding readParts
   by-told f h g k =
       let n : ℕ = recordNumber parts in
       let from : ℕ = at + length (getD parts 0 []) + 1 in
-      cases (eqb (follow (c .last) (recordNumber parts)) 0)
-      (λ a.
-      cases (eqb (readRow joins c (recordNumber parts) (at + length (getD parts 0 []) + 1) (drop 1 parts) .number) 0)
-      (λ b. absurd (let q = simp (a, b) at h in let z : _≡_ {A = ℕ} 0 1 = cc in omega arith))
-      (λ b.
-      let q : Refused (rowRefusal at (readRow joins c n from (drop 1 parts))) ≡ Refused f = simp (a, b) at h in
-      let e : rowRefusal at (readRow joins c n from (drop 1 parts)) ≡ f = cc in
-      k (eqb-true _ _ a) (ap (λ (x : Refusal). x .at) (sym e))
-      (subst (λ (x : Refusal). OfFields (x .number)) e (row-number joins c at n from (drop 1 parts) (eqb-false _ _ b)))))
-      (λ a.
-      let q : Refused (refusal (follow (c .last) (recordNumber parts)) at) ≡ Refused f = simp a at h in
-      g (eqb-false _ _ a) (cc))
+      by-refused joins c at n from (drop 1 parts) f h (λ z e. g z (sym e))
+      (λ y z e. k y (ap (λ (x : Refusal). x .at) (sym e))
+      (subst (λ (x : Refusal). OfFields (x .number)) e (row-number joins c at n from (drop 1 parts) z)))
 
   its-follow : (r : Record) → readParts joins c at parts ≡ Took r → follow (c .last) (numberOf r) ≡ 0
   unfolding readParts

@@ -2,7 +2,7 @@
 -- that they note, for the month of record 51.
 -- Assumes nothing.
 use Prim.Native.Nat.{ℕ, _+_, _≤_, _<_}
-use mathlib.Core.Path.{_≡_, refl, _∙_, sym, ap, subst}
+use mathlib.Core.Path.{_≡_, refl, _∙_, ap, subst}
 use mathlib.Core.Bool.{Bool, true, false, cond}
 use mathlib.Core.List.{List, [], _∷_, _++_, map, append-nil}
 use native.Mathlib.Omega.{arith}
@@ -13,7 +13,8 @@ use lib.Seq.{append-snoc}
 use Rattle.cells.proofs.Split.{split as cases}
 use Rattle.line.specs.Fields.{split}
 use Rattle.supplement.specs.declared.Supplement.{Supplement}
-use Rattle.order.specs.Code.Next.{closes}
+use Rattle.order.specs.Code.Next.{follow, closes}
+use Rattle.order.proofs.Bools.{clash}
 use Rattle.schedule.specs.Schedule.{list}
 use Rattle.schedule.proofs.Laws.{nothing-kept}
 use Rattle.field.specs.declared.Sofar.{Sofar}
@@ -120,9 +121,6 @@ record Rest (s : List ℕ) (c : Sofar) (xs : List Supplement) (rs : List Record)
   ahead : c .last < 101 → upto rs ≡ []
   each : EachRp (c .month) (holds s rs)
 
-never : {P : Type 0} → false ≡ true → P
-never h = absurd (let z : _≡_ {A = ℕ} 0 1 = cc in omega arith)
-
 -- the RP ends here
 closed : (c : Sofar) (xs : List Supplement) → Sure c xs → 101 ≤ c .last → InRp (c .month) (xs ++ [])
 closed c xs k l =
@@ -141,7 +139,7 @@ one-more xs ys noSupplement = refl
 -- what is kept has none of the table's numbers
 past : (m n : ℕ) → typed m ≡ true → typed n ≡ false → m ≤ n → m < n
 past m n a b l =
-    cases (eqb n m) (λ e. never (sym b ∙ ap typed (eqb-true n m e) ∙ a)) (λ e. let d : n ≡ m → ⊥ = eqb-false n m e in omega arith)
+    cases (eqb n m) (λ e. clash (ap typed (eqb-true n m e) ∙ a) b) (λ e. let d : n ≡ m → ⊥ = eqb-false n m e in omega arith)
 
 is-51 : typed 51 ≡ true
 unfolding typed
@@ -170,13 +168,17 @@ sure c xs (Kept x) k t e =
       month = λ l. k .month (after-51 (c .last) (x .number) (t .follows) (past 51 (x .number) is-51 (t .right) l));
     }
 
+-- no record past 101 stands before the first RP
+not-ahead : {P : Type 0} (q n : ℕ) → follow q n ≡ 0 → 101 < n → q < 101 → P
+not-ahead q n h l b = absurd (let k : 101 ≤ q = after-101 q n h l in omega arith)
+
 -- what holds from a record on, where it holds after it
 rest : (s : List ℕ) (c : Sofar) (xs : List Supplement) (r : Record) (rs : List Record) → Sure c xs → Stood c r → Rest s (after c r) (supplements xs r) rs → Rest s c xs (r ∷ rs)
 rest s c xs (Issue x) rs k t o =
     record {
       within = λ l. absurd (let h = no-header (c .last) 51 (t .follows) l in omega arith);
       ahead = λ l. o .ahead (omega arith);
-      each = (λ e. never e, o .each);
+      each = (λ e. clash e refl, o .each);
     }
 rest s c xs (Rp x) rs k t o =
     record {
@@ -187,28 +189,28 @@ rest s c xs (Rp x) rs k t o =
 rest s c xs (Usage x) rs k t o =
     record {
       within = λ l. o .within (omega arith);
-      ahead = λ l. absurd (let h = after-101 (c .last) 111 (t .follows) (omega arith) in omega arith);
-      each = (λ e. never e, o .each);
+      ahead = not-ahead (c .last) 111 (t .follows) (omega arith);
+      each = (λ e. clash e refl, o .each);
     }
 rest s c xs (Supply x) rs k t o =
     record {
       within = λ l. rw (one-more xs (upto rs) (x .code)) at (o .within (omega arith));
-      ahead = λ l. absurd (let h = after-101 (c .last) 181 (t .follows) (omega arith) in omega arith);
-      each = (λ e. never e, o .each);
+      ahead = not-ahead (c .last) 181 (t .follows) (omega arith);
+      each = (λ e. clash e refl, o .each);
     }
 rest s c xs (Drug x) rs k t o =
     record {
       within = λ l. o .within (omega arith);
-      ahead = λ l. absurd (let h = after-101 (c .last) 201 (t .follows) (omega arith) in omega arith);
-      each = (λ e. never e, o .each);
+      ahead = not-ahead (c .last) 201 (t .follows) (omega arith);
+      each = (λ e. clash e refl, o .each);
     }
 rest s c xs (Kept x) rs k t o =
     record {
       within = λ l. o .within (no-header (c .last) (x .number) (t .follows) l);
       ahead =
           λ l. cases (ltb (x .number) 101) (λ e. o .ahead (ltb-true _ _ e))
-          (λ e. absurd (let h = after-101 (c .last) (x .number) (t .follows) (past 101 (x .number) is-101 (t .right) (ltb-false _ _ e)) in omega arith));
-      each = (λ e. never (sym (no-rp (x .number)) ∙ e), rw (month-stays (c .month) (split (textAt s (x .fields)))) (o .each));
+          (λ e. not-ahead (c .last) (x .number) (t .follows) (past 101 (x .number) is-101 (t .right) (ltb-false _ _ e)) l);
+      each = (λ e. clash e (no-rp (x .number)), rw (month-stays (c .month) (split (textAt s (x .fields)))) (o .each));
     }
 
 -- ---- along the lines

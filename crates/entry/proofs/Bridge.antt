@@ -91,6 +91,13 @@ unfolding join
 join-more f [] l = absurd (omega arith)
 join-more f (g ∷ fs) l = refl
 
+-- ---- the fields of a typed record
+-- As many as its row of the table, and among them those that hold the kind and the drug code.
+pub record FitsRow (n : ℕ) (fs : List (List ℕ)) : Type 0 where
+  pub count : length fs ≡ length (rulesOf n fs)
+  pub kind : (1 ≤ kindField n) × (kindField n ≤ length fs)
+  pub code : (1 ≤ codeField n) × (codeField n ≤ length fs)
+
 -- ---- the first wrong field
 module _ (joins : Supplement → Bool) (c : Sofar) where
   -- the number of the first wrong field, 0 where there is none
@@ -180,18 +187,18 @@ module _ (joins : Supplement → Bool) (c : Sofar) where
     nth-is k l m = let z : k ≡ k - 1 + 1 = omega arith in ap (partAt lent (inTen cs)) z ∙ part-is (k - 1) (omega arith)
 
     -- What is wrong with a typed record that has as many fields as its table.
-    pub typed-wrong : (at : ℕ) → typed n ≡ true → length fs ≡ length (rulesOf n fs) → (1 ≤ kindField n) × (kindField n ≤ length fs) →
-        (1 ≤ codeField n) × (codeField n ≤ length fs) → wrongTyped joins c lent here ≡ numberIn (readParts joins c at (printNumber n ∷ fs))
+    pub typed-wrong : (at : ℕ) → typed n ≡ true → FitsRow n fs → wrongTyped joins c lent here ≡ numberIn (readParts joins c at (printNumber n ∷ fs))
     unfolding wrongTyped rules counted
-    typed-wrong at t l k d =
+    typed-wrong at t d =
+        let l : length fs ≡ length (rulesOf n fs) = d .count in
         let table : tableIn lent here ≡ tableOf (rulesOf n fs) =
-        λ i. tableOf (rulesFrom n (nth-is (kindField n) (k .0) (k .1) i) (nth-is (codeField n) (d .0) (d .1) i)) in
+        λ i. tableOf (rulesFrom n (nth-is (kindField n) (d .kind .0) (d .kind .1) i) (nth-is (codeField n) (d .code .0) (d .code .1) i)) in
         let w : wrongFrom joins c lent (tableOf (rulesOf n fs) .each) (inTen cs) (length (rulesOf n fs)) 0 ≡ firstWrong (rulesOf n fs) fs =
         wrong-from lent (tableOf (rulesOf n fs) .each) (inTen cs) (rulesOf n fs) fs 0 l
         (λ j b. rw zero-add (List·getD-append (rulesOf n fs) _ noRule j b)) (λ j b. rw zero-add (part-is j b)) in
         let r : rules n fs ≡ rulesOf n fs = rw t in
         let v : rowWrong n fs ≡ firstWrong (rulesOf n fs) fs =
-        rw (r, le-leb 1 (length fs) (omega arith), eq-eqb (length fs) (length (rulesOf n fs)) l) in
+        rw (r, le-leb 1 (length fs) (omega (arith, d .kind)), eq-eqb (length fs) (length (rulesOf n fs)) l) in
         ap (λ (x : Rules). cond (eqb (follow (c .last) n) 0) (wrongFrom joins c lent (x .each) (inTen cs) (x .count) 0) (follow (c .last) n)) table
         ∙ ap (λ (x : ℕ). cond (eqb (follow (c .last) n) 0) x (follow (c .last) n)) (w ∙ sym v)
         ∙ sym (by-number at n fs)
@@ -220,24 +227,25 @@ module _ (joins : Supplement → Bool) (c : Sofar) where
       ∙ sym (by-number at n fs)
 
   -- ---- refusals
+  -- A refusal is told by the record's number after the last one, or by its row.
+  pub by-refused : {P : Type 0} (at n from : ℕ) (fs : List (List ℕ)) (f : Refusal) → readFields joins c at n from fs ≡ Refused f →
+      ((follow (c .last) n ≡ 0 → ⊥) → refusal (follow (c .last) n) at ≡ f → P) →
+      (follow (c .last) n ≡ 0 → (readRow joins c n from fs .number ≡ 0 → ⊥) → rowRefusal at (readRow joins c n from fs) ≡ f → P) → P
+  unfolding readFields
+  by-refused at n from fs f h g k =
+      cases (eqb (follow (c .last) n) 0)
+      (λ a. cases (eqb (readRow joins c n from fs .number) 0)
+      (λ b. absurd (let q = simp (a, b) at h in let z : _≡_ {A = ℕ} 0 1 = cc in omega arith))
+      (λ b. let q : Refused (rowRefusal at (readRow joins c n from fs)) ≡ Refused f = simp (a, b) at h in k (eqb-true _ _ a) (eqb-false _ _ b) (cc)))
+      (λ a. let q : Refused (refusal (follow (c .last) n) at) ≡ Refused f = simp a at h in g (eqb-false _ _ a) (cc))
+
   -- The number of a refusal does not go by the place,
   pub anywhere : (at : ℕ) (ps : List (List ℕ)) → numberIn (readParts joins c at ps) ≡ numberIn (readParts joins c 0 ps)
   anywhere at ps = by-parts at ps ∙ sym (by-parts 0 ps)
 
-  some-fields : (at n from : ℕ) (fs : List (List ℕ)) (f : Refusal) → readFields joins c at n from fs ≡ Refused f → f .number ≡ 0 → ⊥
-  unfolding readFields
-  some-fields at n from fs f h z =
-      cases (eqb (follow (c .last) n) 0)
-      (λ e. cases (eqb (readRow joins c n from fs .number) 0)
-      (λ d. let k = simp (e, d) at h in let o : _≡_ {A = ℕ} 0 1 = cc in omega arith)
-      (λ d. let k : Refused (rowRefusal at (readRow joins c n from fs)) ≡ Refused f = simp (e, d) at h in
-      let o : rowRefusal at (readRow joins c n from fs) ≡ f = cc in
-      eqb-false _ _ d (ap (λ (r : Refusal). r .number) o ∙ z)))
-      (λ e. let k : Refused (refusal (follow (c .last) n) at) ≡ Refused f = simp e at h in
-      let o : refusal (follow (c .last) n) at ≡ f = cc in
-      eqb-false _ _ e (ap (λ (r : Refusal). r .number) o ∙ z))
-
   -- and is never 0.
   pub refused-some : (at : ℕ) (ps : List (List ℕ)) (f : Refusal) → readParts joins c at ps ≡ Refused f → f .number ≡ 0 → ⊥
   unfolding readParts
-  refused-some at ps f h z = some-fields at (recordNumber ps) _ (drop 1 ps) f h z
+  refused-some at ps f h z =
+      let number : Refusal → ℕ = λ r. r .number in
+      by-refused at (recordNumber ps) _ (drop 1 ps) f h (λ k e. k (ap number e ∙ z)) (λ o k e. k (ap number e ∙ z))

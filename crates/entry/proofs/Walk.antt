@@ -95,11 +95,11 @@ more-texts (b ∷ s) h =
     cases (eqb b 0x2c) (λ e. simp e)
     (λ e. let z : suc (length (upto s)) < suc (length s) = simp e at h in simp (e, more-texts s (omega arith)))
 
-module _ (joins : Supplement → Bool) (c : Sofar) (s : List ℕ) (from to : ℕ) (h : from ≤ length s) (q : to ≡ commaFrom s from) where
-  -- the next comma is inside
-  pub comma-most : (from ≤ to) × (to ≤ length s)
-  comma-most = (omega arith, omega (arith, upto-most (drop from s), length-drop from s))
+-- The next comma is inside.
+pub comma-most : (s : List ℕ) (from to : ℕ) → from ≤ length s → to ≡ commaFrom s from → (from ≤ to) × (to ≤ length s)
+comma-most s from to h q = (omega arith, omega (arith, upto-most (drop from s), length-drop from s))
 
+module _ (joins : Supplement → Bool) (c : Sofar) (s : List ℕ) (from to : ℕ) (h : from ≤ length s) (q : to ≡ commaFrom s from) where
   size : to - from ≡ length (upto (drop from s))
   size = omega arith
 
@@ -135,4 +135,4 @@ module _ (joins : Supplement → Bool) (c : Sofar) (s : List ℕ) (from to : ℕ
         let k : from + suc (length (upto (drop from s))) ≡ to + 1 = omega arith in
         let d : drop (suc (length (upto (drop from s)))) (drop from s) ≡ drop (to + 1) s =
         drop-drop (suc (length (upto (drop from s)))) from s ∙ rw k in
-        rw (more-texts (drop from s) (omega (arith, comma-most, length-drop from s)), ← read, eq-eqb n 0 z, d)
+        rw (more-texts (drop from s) (omega (arith, comma-most s from to h q, length-drop from s)), ← read, eq-eqb n 0 z, d)

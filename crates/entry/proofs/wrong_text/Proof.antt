@@ -30,25 +30,13 @@ comma-requires : tie.Need-comma-requires Inv-loop μ-loop
 comma-requires c κs = search needs
 
 sub-read : tie.Need-sub-read Inv-loop μ-loop
-sub-read c =
-    let a = c .before .before .before .before .args in
-    let l = c .before .loop in
-    let k = comma-most (mayJoin (a .c .month) (a .c .schedule)) (a .c) (a .s .now) (l .from) (c .comma .result) (l .inv .0) (c .comma .ensures) in
-    omega (arith, k)
+sub-read c = omega (arith, comma-most _ _ _ (c .before .loop .inv .0) (c .comma .ensures))
 
 part-read-start : tie.Need-part-read-start Inv-loop μ-loop
-part-read-start c =
-    let a = c .before .before .before .before .args in
-    let l = c .before .loop in
-    let k = comma-most (mayJoin (a .c .month) (a .c .schedule)) (a .c) (a .s .now) (l .from) (c .comma .result) (l .inv .0) (c .comma .ensures) in
-    omega (arith, k)
+part-read-start c = omega (arith, comma-most _ _ _ (c .before .loop .inv .0) (c .comma .ensures))
 
 part-read-end : tie.Need-part-read-end Inv-loop μ-loop
-part-read-end c =
-    let a = c .before .before .before .before .args in
-    let l = c .before .loop in
-    let k = comma-most (mayJoin (a .c .month) (a .c .schedule)) (a .c) (a .s .now) (l .from) (c .comma .result) (l .inv .0) (c .comma .ensures) in
-    omega (arith, k)
+part-read-end c = omega (arith, comma-most _ _ _ (c .before .loop .inv .0) (c .comma .ensures))
 
 read-requires : tie.Need-read-requires Inv-loop μ-loop
 read-requires c κs = search needs
@@ -56,47 +44,27 @@ read-requires c κs = search needs
 returns : tie.Need-returns Inv-loop μ-loop
 returns c =
     let f = c .before .before .before in
-    let a = f .before .before .before .before .args in
     let l = f .before .loop in
-    let u = f .before .before .kept-rule in
-    let r = c .before .read in
-    sym (wrong-text-here (mayJoin (a .c .month) (a .c .schedule)) (a .c) (a .s .now) (l .from) (f .comma .result) (l .inv .0) (f .comma .ensures) (u .result) (u .ensures) (r .result .number) (ap (λ (t : Field). t .number) (r .ensures)) (c .if1 .taken)) ∙ l .inv .1
+    sym (wrong-text-here _ _ _ _ _ (l .inv .0) (f .comma .ensures) _ (f .before .before .kept-rule .ensures) _ (ap (λ (t : Field). t .number) (c .before .read .ensures)) (c .if1 .taken)) ∙ l .inv .1
 
 returns-2 : tie.Need-returns-2 Inv-loop μ-loop
 returns-2 c =
     let f = c .before .before .before .before in
-    let a = f .before .before .before .before .args in
     let l = f .before .loop in
-    let u = f .before .before .kept-rule in
-    let r = c .before .before .read in
-    sym (no-text-more (mayJoin (a .c .month) (a .c .schedule)) (a .c) (a .s .now) (l .from) (f .comma .result) (l .inv .0) (f .comma .ensures) (u .result) (u .ensures) (r .result .number) (ap (λ (t : Field). t .number) (r .ensures)) (c .if2 .taken) (c .before .if1 .left)) ∙ l .inv .1
+    sym (no-text-more _ _ _ _ _ (l .inv .0) (f .comma .ensures) _ (f .before .before .kept-rule .ensures) _ (ap (λ (t : Field). t .number) (c .before .before .read .ensures)) (c .if2 .taken) (c .before .if1 .left)) ∙ l .inv .1
 
 add-from : tie.Need-add-from Inv-loop μ-loop
-add-from c =
-    let f = c .before .before .before .before in
-    let a = f .before .before .before .before .args in
-    let l = f .before .loop in
-    let k = comma-most (mayJoin (a .c .month) (a .c .schedule)) (a .c) (a .s .now) (l .from) (f .comma .result) (l .inv .0) (f .comma .ensures) in
-    omega (arith, k)
+add-from c = let f = c .before .before .before .before in omega (arith, comma-most _ _ _ (f .before .loop .inv .0) (f .comma .ensures))
 
 loop-less : tie.Need-loop-less Inv-loop μ-loop
-loop-less c =
-    let f = c .before .before .before .before in
-    let a = f .before .before .before .before .args in
-    let l = f .before .loop in
-    let k = comma-most (mayJoin (a .c .month) (a .c .schedule)) (a .c) (a .s .now) (l .from) (f .comma .result) (l .inv .0) (f .comma .ensures) in
-    omega (arith, k)
+loop-less c = let f = c .before .before .before .before in omega (arith, comma-most _ _ _ (f .before .loop .inv .0) (f .comma .ensures))
 
 loop-again : tie.Need-loop-again Inv-loop μ-loop
 loop-again c =
     let f = c .before .before .before .before in
-    let a = f .before .before .before .before .args in
-    let l = f .before .loop in
-    let k = comma-most (mayJoin (a .c .month) (a .c .schedule)) (a .c) (a .s .now) (l .from) (f .comma .result) (l .inv .0) (f .comma .ensures) in
-    let u = f .before .before .kept-rule in
-    let r = c .before .before .read in (
-      omega (arith, k),
-      sym (next-text (mayJoin (a .c .month) (a .c .schedule)) (a .c) (a .s .now) (l .from) (f .comma .result) (l .inv .0) (f .comma .ensures) (u .result) (u .ensures) (r .result .number) (ap (λ (t : Field). t .number) (r .ensures)) (c .if2 .left) (c .before .if1 .left)) ∙ l .inv .1,
+    let l = f .before .loop in (
+      omega (arith, comma-most _ _ _ (l .inv .0) (f .comma .ensures)),
+      sym (next-text _ _ _ _ _ (l .inv .0) (f .comma .ensures) _ (f .before .before .kept-rule .ensures) _ (ap (λ (t : Field). t .number) (c .before .before .read .ensures)) (c .if2 .left) (c .before .if1 .left)) ∙ l .inv .1,
     )
 
 pub wrong-text-spec : {M : Type 1} → statement M

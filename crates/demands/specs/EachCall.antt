@@ -1,0 +1,57 @@
+-- Demand 1, call by call: that writing has one answer, and which of document 01's numbers a refusal tells. `Numbers` has the table of numbers
+-- and places.
+-- Assumes nothing.
+use Prim.Native.Nat.{ℕ, _/_, _<_}
+use mathlib.Core.Path.{_≡_}
+use mathlib.Core.List.{List}
+use lib.ListN.{length}
+use Rattle.cells.specs.Test.{took, refused}
+use Rattle.usage.specs.Usage.{readUsage}
+use Rattle.usage.specs.declared.Instruction.{Instruction}
+use Rattle.usage_writer.specs.Writes.{WritesUsage}
+use Rattle.usage_writer.specs.declared.Written.{Written as WrittenUsage}
+use Rattle.supplement.specs.Supplement.{readSupplement}
+use Rattle.supplement.specs.declared.Supplement.{Supplement}
+use Rattle.supplement_writer.specs.Writes.{WritesSupplement}
+use Rattle.supplement_writer.specs.declared.Written.{Written as WrittenSupplement}
+use Rattle.days.specs.Run.{readRun}
+use Rattle.days.specs.Set.{WritesSet}
+use Rattle.days.specs.declared.Wrote.{Wrote}
+use Rattle.date.specs.declared.Made.{Made}
+use Rattle.record.specs.declared.Refusal.{Refusal}
+use Rattle.reader.specs.Reader.{openFile, nextRecord, call}
+use Rattle.reader.specs.declared.State.{State}
+use Rattle.reader.specs.declared.Handed.the-variants.{Refused as Refuses}
+use Rattle.demands.specs.One.{One}
+use Rattle.demands.specs.Numbers.{UsageNumber, SupplementNumber, RunNumber, saidDate, FileRefusal}
+
+-- "Every file, code and record handed over gets an answer": writing a code or a set of days has one answer that meets its promise, and no other.
+pub record Answered : Type 0 where
+  -- An instruction to write as a usage code,
+  pub usage : (i : Instruction) → One WrittenUsage (WritesUsage i)
+  -- a supplement to write as a supplementary code,
+  pub supplement : (x : Supplement) → One WrittenSupplement (WritesSupplement x)
+  -- and a set of days, which has thirteen cells, into a lent buffer: the answer comes with the buffer after it.
+  pub set : (issue : ℕ) (cells before : List ℕ) → length cells ≡ 13 → One (List ℕ × Wrote) (λ a. WritesSet issue cells before (a .0) (a .1))
+
+-- "A refusal is one of document 01's numbers, with its place."
+pub record NumberAndPlace : Type 0 where
+  -- Reading a usage code,
+  pub usage : (s : List ℕ) (n p : ℕ) → readUsage s ≡ refused n p → UsageNumber n p
+  -- a supplementary code,
+  pub supplement : (s : List ℕ) (n p : ℕ) → readSupplement s ≡ refused n p → SupplementNumber n p
+  -- a run of date codes,
+  pub run : (issue : ℕ) (s : List ℕ) → (readRun issue s .number ≡ 0 → ⊥) →
+      RunNumber (length s / 8) (readRun issue s .number) (readRun issue s .place) (readRun issue s .code)
+  -- a file: on any call from opening on,
+  pub file : (s : List ℕ) (n : ℕ) (f : Refusal) → call n s (openFile s) ≡ Refuses f → FileRefusal s f
+  -- and in any state inside the file, once opened;
+  pub state : (s : List ℕ) (t : State) (f : Refusal) → t .number ≡ 0 → t .at < length s → nextRecord s t .next ≡ Refuses f → FileRefusal s f
+  -- making a date,
+  pub date : (t : Made) (n p : ℕ) → saidDate t ≡ refused n p → (n ≡ 27) × (p ≡ 0)
+  -- writing a usage code: "35 code record that no code reads as",
+  pub usageWritten : (i : Instruction) (w : WrittenUsage) → WritesUsage i w → (w .number ≡ 0 → ⊥) →
+      (w .number ≡ 35) × ((s : List ℕ) → readUsage s ≡ took i → ⊥)
+  -- and writing a supplementary code.
+  pub supplementWritten : (x : Supplement) (w : WrittenSupplement) → WritesSupplement x w → (w .number ≡ 0 → ⊥) →
+      (w .number ≡ 35) × ((s : List ℕ) → readSupplement s ≡ took x → ⊥)
