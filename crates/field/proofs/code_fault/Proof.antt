@@ -1,8 +1,8 @@
 -- By the form.
 -- Assumes nothing.
-use borrow.Author.Tests.{eq-eqb, ne-eqb}
-use Rattle.field.specs.Code.Read.{codeWrong}
 use borrow.Author.Needs.{needs}
+use Rattle.cells.proofs.Tests.{tests}
+use Rattle.field.specs.Code.Read.{codeWrong}
 use Rattle.field.proofs.code_fault.Statement.{statement}
 use Rattle.field.proofs.code_fault.Tie as tie
 
@@ -11,21 +11,21 @@ usage-fault-requires c κs = search needs
 
 returns : tie.Need-returns
 unfolding codeWrong
-returns c = simp (eq-eqb _ _ (c .before .if1 .taken)) (c .usage-fault .ensures)
+returns c = search tests
 
 supplement-fault-requires : tie.Need-supplement-fault-requires
 supplement-fault-requires c κs = search needs
 
 returns-2 : tie.Need-returns-2
 unfolding codeWrong
-returns-2 c = simp (ne-eqb _ _ (c .before .before .before .if1 .left), eq-eqb _ _ (c .before .if2 .taken)) (c .supplement-fault .ensures)
+returns-2 c = search tests
 
 coded-requires : tie.Need-coded-requires
 coded-requires c κs = search needs
 
 returns-3 : tie.Need-returns-3
 unfolding codeWrong
-returns-3 c = simp (ne-eqb _ _ (c .before .before .before .if1 .left), ne-eqb _ _ (c .before .if2 .left)) (c .coded .ensures)
+returns-3 c = search tests
 
 pub code-fault-spec : {M : Type 1} → statement M
 code-fault-spec =

@@ -1,8 +1,8 @@
 -- By the form.
 -- Assumes nothing.
-use borrow.Author.Tests.{eq-eqb, ne-eqb}
-use Rattle.field.specs.Field.{ordered}
 use borrow.Author.Needs.{needs}
+use Rattle.cells.proofs.Tests.{tests}
+use Rattle.field.specs.Field.{ordered}
 use Rattle.field.proofs.ordered.Statement.{statement}
 use Rattle.field.proofs.ordered.Tie as tie
 
@@ -11,32 +11,32 @@ rises-requires c κs = search needs
 
 returns : tie.Need-returns
 unfolding ordered
-returns c = simp (eq-eqb _ _ (c .before .if1 .taken)) (c .rises .ensures)
+returns c = search tests
 
 carries-requires : tie.Need-carries-requires
 carries-requires c κs = search needs
 
 returns-2 : tie.Need-returns-2
 unfolding ordered
-returns-2 c = simp (ne-eqb _ _ (c .before .before .before .if1 .left), eq-eqb _ _ (c .before .if2 .taken)) (c .carries .ensures)
+returns-2 c = search tests
 
 next-drug-requires : tie.Need-next-drug-requires
 next-drug-requires c κs = search needs
 
 returns-3 : tie.Need-returns-3
 unfolding ordered
-returns-3 c = simp (ne-eqb _ _ (c .before .before .before .before .before .if1 .left), ne-eqb _ _ (c .before .before .before .if2 .left), eq-eqb _ _ (c .before .if3 .taken)) (c .next-drug .ensures)
+returns-3 c = search tests
 
 next-supplement-requires : tie.Need-next-supplement-requires
 next-supplement-requires c κs = search needs
 
 returns-4 : tie.Need-returns-4
 unfolding ordered
-returns-4 c = simp (ne-eqb _ _ (c .before .before .before .before .before .before .before .if1 .left), ne-eqb _ _ (c .before .before .before .before .before .if2 .left), ne-eqb _ _ (c .before .before .before .if3 .left), eq-eqb _ _ (c .before .if4 .taken)) (c .next-supplement .ensures)
+returns-4 c = search tests
 
 returns-5 : tie.Need-returns-5
 unfolding ordered
-returns-5 c = simp (ne-eqb _ _ (c .before .before .before .before .before .before .if1 .left), ne-eqb _ _ (c .before .before .before .before .if2 .left), ne-eqb _ _ (c .before .before .if3 .left), ne-eqb _ _ (c .if4 .left))
+returns-5 c = search tests
 
 pub ordered-spec : {M : Type 1} → statement M
 ordered-spec =
