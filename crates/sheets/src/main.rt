@@ -124,7 +124,7 @@ fn write_again(s: &[u8], again: &mut [u8]) {
 
 // Are these the same bytes?
 fn same(a: &[u8], b: &[u8]) -> bool
-    ensures { λ r. ⌜ (r ≡ true → now (a .entry) ≡ now (b .entry)) ⌝ }
+    ensures { λ r. ⌜ (r ≡ true → now (a .entry) ≡ now (b .entry)) × (now (a .entry) ≡ now (b .entry) → r ≡ true) ⌝ }
 {
     if a.len() != b.len() {
         return false;

@@ -1,6 +1,6 @@
 -- As many bytes as were compared are the same.
 use Prim.Native.Nat.{ℕ, suc, _+_, _-_, _≤_}
-use mathlib.Core.Path.{_≡_, refl, sym, ap₂, subst, _∙_}
+use mathlib.Core.Path.{_≡_, refl, sym, ap, ap₂, subst, _∙_}
 use mathlib.Core.List.{List, [], _∷_, _++_}
 use native.Mathlib.Omega.{arith}
 use borrow.Author.Needs.{needs}
@@ -16,7 +16,7 @@ abbrev μ-loop : tie.MeasureT-loop
 μ-loop a b i₀ i = length a - i
 
 returns : tie.Need-returns Inv-loop μ-loop
-returns c = λ e. absurd (let z : _≡_ {A = ℕ} 0 1 = cc in omega arith)
+returns c = (λ e. absurd (let z : _≡_ {A = ℕ} 0 1 = cc in omega arith), λ e. absurd (c .if1 .taken (ap length e)))
 
 loop-holds : tie.Need-loop-holds Inv-loop μ-loop
 loop-holds c = (omega arith, omega arith, refl)
@@ -28,7 +28,9 @@ shared-slice-read-if2-2 : tie.Need-shared-slice-read-if2-2 Inv-loop μ-loop
 shared-slice-read-if2-2 c = search needs
 
 returns-2 : tie.Need-returns-2 Inv-loop μ-loop
-returns-2 c = λ e. absurd (let z : _≡_ {A = ℕ} 0 1 = cc in omega arith)
+returns-2 c =
+    let l = c .before .before .before .before .loop in
+    (λ e. absurd (let z : _≡_ {A = ℕ} 0 1 = cc in omega arith), λ e. absurd (c .if2 .taken (ap (λ (s : List ℕ). getD s (l .i) 0) e)))
 
 add-i : tie.Need-add-i Inv-loop μ-loop
 add-i c = search needs
@@ -53,7 +55,7 @@ returns-3 : tie.Need-returns-3 Inv-loop μ-loop
 returns-3 c =
     let a = c .before .before .before .args in
     let l = c .before .loop in
-    λ e. sym (take-all (l .i) (a .a .now) (omega arith)) ∙ l .inv .2 ∙ take-all (l .i) (a .b .now) (omega (arith, l .inv .0))
+    (λ e. sym (take-all (l .i) (a .a .now) (omega arith)) ∙ l .inv .2 ∙ take-all (l .i) (a .b .now) (omega (arith, l .inv .0)), λ e. refl)
 
 pub same-spec : {M : Type 1} → statement M
 same-spec =
