@@ -1,4 +1,6 @@
 -- By the calls.
+use mathlib.Core.Path.{_∙_}
+use Rattle.told.specs.Answers.{madeNumber, madeNumbers, madeText}
 use borrow.Author.Needs.{needs}
 use Rattle.capi.proofs.yws_date_make.Statement.{statement}
 use Rattle.capi.proofs.yws_date_make.Tie as tie
@@ -16,7 +18,14 @@ made-number-requires : tie.Need-made-number-requires
 made-number-requires c κs = search needs
 
 returns : tie.Need-returns
-returns c = record { returns = cc; leaves = cc; writes = cc }
+returns c =
+    let a = c .before .before .before .before .before .before .args in
+    let m = c .before .before .before .before .before .made in
+    record {
+      returns = c .made-number .ensures ∙ (λ i. madeNumber (m .ensures i));
+      leaves = c .before .before .before .made-numbers .ensures ∙ (λ i. madeNumbers (m .ensures i) (a .numbers .now));
+      writes = c .before .made-text .ensures ∙ (λ i. madeText (m .ensures i) (a .text .now));
+    }
 
 pub yws-date-make-spec : {M : Type 1} → statement M
 yws-date-make-spec =

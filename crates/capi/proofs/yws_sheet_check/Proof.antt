@@ -1,4 +1,6 @@
 -- By the calls.
+use mathlib.Core.Path.{_∙_}
+use Rattle.told.specs.Answers.{checkedNumber, checkedRecords, checkedRefusal}
 use borrow.Author.Needs.{needs}
 use Rattle.capi.proofs.yws_sheet_check.Statement.{statement}
 use Rattle.capi.proofs.yws_sheet_check.Tie as tie
@@ -16,7 +18,14 @@ checked-number-requires : tie.Need-checked-number-requires
 checked-number-requires c κs = search needs
 
 returns : tie.Need-returns
-returns c = record { returns = cc; refuses = cc; leaves = cc }
+returns c =
+    let a = c .before .before .before .before .before .before .args in
+    let k = c .before .before .before .before .check in
+    record {
+      returns = c .checked-number .ensures ∙ (λ i. checkedNumber (k .ensures i));
+      refuses = c .before .checked-refusal .ensures ∙ (λ i. checkedRefusal (k .ensures i));
+      leaves = c .before .before .checked-records .ensures ∙ (λ i. checkedRecords (k .ensures i) (a .records .now));
+    }
 
 pub yws-sheet-check-spec : {M : Type 1} → statement M
 yws-sheet-check-spec =

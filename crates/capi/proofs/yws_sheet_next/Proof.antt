@@ -2,8 +2,8 @@
 use mathlib.Core.Path.{_≡_, _∙_, ap}
 use Rattle.reader.specs.Reader.{nextRecord}
 use Rattle.reader.specs.declared.Step.{Step}
-use Rattle.plain.specs.States.{readerOf}
-use Rattle.told.specs.Answers.{handedState}
+use Rattle.plain.specs.States.{readerNumbers, readerOf}
+use Rattle.told.specs.Answers.{handedNumber, handedRecord, handedRefusal, handedState}
 use Rattle.capi.proofs.Kept.{held-state}
 use borrow.Author.Needs.{needs}
 use Rattle.capi.proofs.yws_sheet_next.Statement.{statement}
@@ -34,14 +34,18 @@ returns : tie.Need-returns
 returns c =
     let a = c .before .before .before .before .before .before .before .before .before .before .before .before .before .args in
     let n = c .before .before .before .before .before .before .reader-numbers in
-    let e : c .before .before .before .before .before .before .before .before .next .result ≡ nextRecord (a .file .now) (readerOf (a .state .now)) = cc in
+    let e : c .before .before .before .before .before .before .before .before .next .result ≡ nextRecord (a .file .now) (readerOf (a .state .now)) =
+    c .before .before .before .before .before .before .before .before .next .ensures ∙ (λ i. nextRecord (a .file .now) (c .before .before .before .before .before .before .before .before .before .reader-state .ensures i))
+    in
     let k : readerOf (n .result) ≡ nextRecord (a .file .now) (readerOf (a .state .now)) .state = n .ensures .1 ∙ ap (λ (x : Step). x .state) e in
-    let m : c .before .before .before .before .handed-state .result ≡ handedState (nextRecord (a .file .now) (readerOf (a .state .now)) .next) (n .result) (a .state .now) = cc in
+    let m : c .before .before .before .before .handed-state .result ≡ handedState (nextRecord (a .file .now) (readerOf (a .state .now)) .next) (n .result) (a .state .now) =
+    c .before .before .before .before .handed-state .ensures ∙ (λ i. handedState (e i .next) (n .result) (a .state .now))
+    in
     record {
-      returns = cc;
-      refuses = cc;
-      moves = cc;
-      leaves = cc;
+      returns = c .handed-number .ensures ∙ (λ i. handedNumber (e i .next));
+      refuses = c .before .handed-refusal .ensures ∙ (λ i. handedRefusal (e i .next));
+      moves = m ∙ (λ i. handedState (nextRecord (a .file .now) (readerOf (a .state .now)) .next) ((n .ensures .0 ∙ (λ j. readerNumbers (e j .state))) i) (a .state .now));
+      leaves = c .before .before .handed-record .ensures ∙ (λ i. handedRecord (e i .next) (a .numbers .now));
       holds = ap readerOf m ∙ held-state (a .file .now) (a .state .now) (n .result) k;
     }
 

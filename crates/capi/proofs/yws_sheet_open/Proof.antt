@@ -1,5 +1,6 @@
 -- By the calls.
 use mathlib.Core.Path.{_∙_}
+use Rattle.plain.specs.States.{readerNumbers}
 use borrow.Author.Needs.{needs}
 use Rattle.capi.proofs.yws_sheet_open.Statement.{statement}
 use Rattle.capi.proofs.yws_sheet_open.Tie as tie
@@ -11,7 +12,13 @@ reader-numbers-requires : tie.Need-reader-numbers-requires
 reader-numbers-requires c κs = search needs
 
 returns : tie.Need-returns
-returns c = record { returns = cc; leaves = cc; holds = c .reader-numbers .ensures .1 ∙ c .before .«open» .ensures }
+returns c =
+    let o = c .before .«open» in
+    record {
+      returns = λ i. o .ensures i .number;
+      leaves = c .reader-numbers .ensures .0 ∙ (λ i. readerNumbers (o .ensures i));
+      holds = c .reader-numbers .ensures .1 ∙ o .ensures;
+    }
 
 pub yws-sheet-open-spec : {M : Type 1} → statement M
 yws-sheet-open-spec = tie.close (tie.spec open-requires reader-numbers-requires returns)

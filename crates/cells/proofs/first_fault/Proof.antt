@@ -1,9 +1,10 @@
 -- The loop leaves the scan of what is left of the row as it was; `Scan` has its steps.
-use Prim.Native.Nat.{_≤_, _-_}
+use Prim.Native.Nat.{_≤_, _+_, _-_}
 use mathlib.Core.Path.{_≡_, _∙_, sym}
 use borrow.Author.Needs.{needs}
 use native.Mathlib.Omega.{arith}
 use lib.ListN.{length}
+use Rattle.cells.specs.Test.{fault}
 use Rattle.cells.specs.Code.Mask.{scan}
 use Rattle.cells.proofs.Scan.{step, stop, done}
 use Rattle.cells.proofs.first_fault.Statement.{statement}
@@ -27,7 +28,8 @@ add-t11 c = search needs
 returns : tie.Need-returns Inv-loop μ-loop
 returns c =
     let l = c .before .before .before .loop in
-    cc (stop _ _ _ _ (l .j) (l .i) (search needs) (λ e. c .if1 .taken (c .before .wrong-at .ensures ∙ e)), c .before .wrong-at .ensures, l .inv .1)
+    let w = c .before .wrong-at .ensures in
+    (λ i. fault (w i) (l .i + 1)) ∙ sym (stop _ _ _ _ (l .j) (l .i) (search needs) (λ e. c .if1 .taken (w ∙ e))) ∙ l .inv .1
 
 add-i : tie.Need-add-i Inv-loop μ-loop
 add-i c = search needs

@@ -1,8 +1,10 @@
 -- The character against its cell, or against 0 past the row: from what each call ensures.
+use mathlib.Core.Path.{_∙_}
 use native.Mathlib.Omega.{arith}
 use borrow.Author.Tests.{lt-ltb, le-ltb}
-use lib.ListN.{length}
-use Rattle.cells.specs.Code.Mask.{wrongAt}
+use lib.Dec.{leb}
+use lib.ListN.{length, getD}
+use Rattle.cells.specs.Code.Mask.{value, has, wrong, unused, wrongAt}
 use borrow.Author.Needs.{needs}
 use Rattle.cells.proofs.wrong_at.Statement.{statement}
 use Rattle.cells.proofs.wrong_at.Tie as tie
@@ -38,7 +40,10 @@ returns : tie.Need-returns
 unfolding wrongAt
 returns c =
     let a = c .before .before .before .before .before .before .before .before .before .before .before .args in
-    simp (lt-ltb (a .j) (length (a .sets .now)) (omega arith)) (cc)
+    let v = c .before .before .before .before .before .before .before .value .ensures in
+    let h = c .before .has .ensures ∙ (λ i. has (getD (a .sets .now) (a .j) 0) (v i)) in
+    let w = c .before .before .before .value2 .ensures ∙ (λ i. value (getD (a .s .now) (c .before .before .before .before .before .prev .ensures i) 0)) in
+    rw (lt-ltb (a .j) (length (a .sets .now)) (omega arith)) (c .wrong .ensures ∙ (λ i. wrong (h i) (leb (a .rise) (a .j)) (a .last) (w i) (v i)))
 
 unused-requires : tie.Need-unused-requires
 unused-requires c κs = search needs
@@ -47,7 +52,7 @@ returns-2 : tie.Need-returns-2
 unfolding wrongAt
 returns-2 c =
     let a = c .before .before .before .before .before .before .args in
-    simp (le-ltb (a .j) (length (a .sets .now)) (omega arith)) (cc)
+    rw (le-ltb (a .j) (length (a .sets .now)) (omega arith)) (c .unused .ensures ∙ (λ i. unused (c .before .before .value .ensures i)))
 
 pub wrong-at-spec : {M : Type 1} → statement M
 wrong-at-spec =

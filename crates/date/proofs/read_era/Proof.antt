@@ -1,7 +1,10 @@
 -- The era is the first digit, and not 0.
 -- Assumes nothing.
-use mathlib.Core.Path.{sym}
+use Prim.Native.Nat.{_+_, _-_}
+use Rattle.date.specs.Date.{date, held}
+use mathlib.Core.Path.{_∙_, sym}
 use native.Mathlib.Omega.{arith}
+use lib.ListN.{getD}
 use borrow.Author.Needs.{needs}
 use Rattle.date.proofs.Digits.{digit-at}
 use Rattle.date.proofs.Style.{read-zero, read-era}
@@ -43,7 +46,11 @@ held-requires c κs = search needs
 returns-2 : tie.Need-returns-2
 returns-2 c =
     let p = c .before .before .before .before .before .before .before .before .before .pre in
-    cc (read-era (c .before .before .before .before .before .before .before .before .before .args .s .now) (p .0) (p .1) (c .before .before .before .before .before .before .if1 .left))
+    let s = c .before .before .before .before .before .before .before .before .before .args .s .now in
+    let y = c .before .before .before .wide .ensures ∙ c .before .before .before .before .two .ensures .0 in
+    c .held .ensures ∙
+    (λ i. held (date (getD s 0 0 - 48) (c .before .before .before .before .before .era-adds .ensures .0 i + y i) (c .before .before .two2 .ensures .0 i) (c .before .two3 .ensures .0 i))) ∙
+    sym (read-era s (p .0) (p .1) (c .before .before .before .before .before .before .if1 .left))
 
 pub read-era-spec : {M : Type 1} → statement M
 read-era-spec =

@@ -1,5 +1,8 @@
 -- The four digits of the year are two numbers of two.
 -- Assumes nothing.
+use Prim.Native.Nat.{_+_, _*_}
+use mathlib.Core.Path.{_∙_, sym}
+use Rattle.date.specs.Date.{date, held}
 use borrow.Author.Needs.{needs}
 use Rattle.date.proofs.Style.{read-western}
 use Rattle.date.proofs.read_western.Statement.{statement}
@@ -35,7 +38,11 @@ held-requires c κs = search needs
 returns : tie.Need-returns
 returns c =
     let p = c .before .before .before .before .before .before .before .before .pre in
-    cc (read-western (c .before .before .before .before .before .before .before .before .args .s .now) (p .0) (p .1))
+    let x = c .before .before .before .before .before .wide .ensures ∙ c .before .before .before .before .before .before .two .ensures .0 in
+    let y = c .before .before .before .wide2 .ensures ∙ c .before .before .before .before .two2 .ensures .0 in
+    c .held .ensures ∙
+    (λ i. held (date 0 (x i * 100 + y i) (c .before .before .two3 .ensures .0 i) (c .before .two4 .ensures .0 i))) ∙
+    sym (read-western (c .before .before .before .before .before .before .before .before .args .s .now) (p .0) (p .1))
 
 pub read-western-spec : {M : Type 1} → statement M
 read-western-spec =

@@ -1,4 +1,5 @@
 -- Part by part.
+use mathlib.Core.List.{[], _∷_}
 use borrow.Author.Needs.{needs}
 use Rattle.entry.proofs.parts_101.Statement.{statement}
 use Rattle.entry.proofs.parts_101.Tie as tie
@@ -22,7 +23,7 @@ number-requires-4 : tie.Need-number-requires-4
 number-requires-4 c κs = search needs
 
 returns : tie.Need-returns
-returns c = cc
+returns c = λ i. record { number = 101; count = 5; each = c .before .before .before .before .number .ensures i ∷ c .before .before .before .number2 .ensures i ∷ c .before .before .number3 .ensures i ∷ c .before .text-in .ensures i ∷ c .number4 .ensures i ∷ c .before .before .before .before .before .empty .ensures i ∷ c .before .before .before .before .before .empty .ensures i ∷ c .before .before .before .before .before .empty .ensures i ∷ c .before .before .before .before .before .empty .ensures i ∷ c .before .before .before .before .before .empty .ensures i ∷ [] }
 
 pub parts-101-spec : {M : Type 1} → statement M
 parts-101-spec =

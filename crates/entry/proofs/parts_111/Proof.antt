@@ -1,4 +1,5 @@
 -- Part by part.
+use mathlib.Core.List.{[], _∷_}
 use borrow.Author.Needs.{needs}
 use Rattle.entry.proofs.parts_111.Statement.{statement}
 use Rattle.entry.proofs.parts_111.Tie as tie
@@ -25,7 +26,7 @@ optional-requires : tie.Need-optional-requires
 optional-requires c κs = search needs
 
 returns : tie.Need-returns
-returns c = cc
+returns c = λ i. record { number = 111; count = 6; each = c .before .before .before .before .before .number .ensures i ∷ c .before .before .before .before .number2 .ensures i ∷ c .before .before .before .number3 .ensures i ∷ c .before .before .usage-code .ensures i ∷ c .before .text-in .ensures i ∷ c .optional .ensures i ∷ c .before .before .before .before .before .before .empty .ensures i ∷ c .before .before .before .before .before .before .empty .ensures i ∷ c .before .before .before .before .before .before .empty .ensures i ∷ c .before .before .before .before .before .before .empty .ensures i ∷ [] }
 
 pub parts-111-spec : {M : Type 1} → statement M
 parts-111-spec =

@@ -1,4 +1,5 @@
 -- Part by part.
+use mathlib.Core.List.{[], _∷_}
 use borrow.Author.Needs.{needs}
 use Rattle.entry.proofs.parts_181.Statement.{statement}
 use Rattle.entry.proofs.parts_181.Tie as tie
@@ -28,7 +29,7 @@ text-in-requires-2 : tie.Need-text-in-requires-2
 text-in-requires-2 c κs = search needs
 
 returns : tie.Need-returns
-returns c = cc
+returns c = λ i. record { number = 181; count = 7; each = c .before .before .before .before .before .before .number .ensures i ∷ c .before .before .before .before .before .number2 .ensures i ∷ c .before .before .before .before .number3 .ensures i ∷ c .before .before .before .optional .ensures i ∷ c .before .before .text-in .ensures i ∷ c .before .supplement-code .ensures i ∷ c .text-in2 .ensures i ∷ c .before .before .before .before .before .before .before .empty .ensures i ∷ c .before .before .before .before .before .before .before .empty .ensures i ∷ c .before .before .before .before .before .before .before .empty .ensures i ∷ [] }
 
 pub parts-181-spec : {M : Type 1} → statement M
 parts-181-spec =

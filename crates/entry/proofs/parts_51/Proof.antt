@@ -1,4 +1,7 @@
 -- Part by part.
+use mathlib.Core.Path.{_∙_}
+use mathlib.Core.List.{[], _∷_}
+use Rattle.entry.specs.Code.Judge.{inCell}
 use borrow.Author.Needs.{needs}
 use Rattle.entry.proofs.parts_51.Statement.{statement}
 use Rattle.entry.proofs.parts_51.Tie as tie
@@ -16,7 +19,7 @@ own-requires : tie.Need-own-requires
 own-requires c κs = search needs
 
 returns : tie.Need-returns
-returns c = cc
+returns c = λ i. record { number = 51; count = 2; each = c .before .before .number .ensures i ∷ (c .own .ensures ∙ (λ j. inCell (c .before .day .ensures j))) i ∷ c .before .before .before .empty .ensures i ∷ c .before .before .before .empty .ensures i ∷ c .before .before .before .empty .ensures i ∷ c .before .before .before .empty .ensures i ∷ c .before .before .before .empty .ensures i ∷ c .before .before .before .empty .ensures i ∷ c .before .before .before .empty .ensures i ∷ c .before .before .before .empty .ensures i ∷ [] }
 
 pub parts-51-spec : {M : Type 1} → statement M
 parts-51-spec =

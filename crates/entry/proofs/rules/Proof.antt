@@ -1,4 +1,7 @@
 -- By the parts that hold the kind and the drug code.
+use mathlib.Core.Path.{_∙_}
+use lib.ListN.{getD}
+use Rattle.entry.specs.Code.Judge.{tableBy, noCell}
 use native.Mathlib.Omega.{arith}
 use borrow.Author.Needs.{needs}
 use Rattle.entry.proofs.Walk.{kind-most, code-most}
@@ -27,7 +30,10 @@ rules-by-requires : tie.Need-rules-by-requires
 rules-by-requires c κs = search needs
 
 returns : tie.Need-returns
-returns c = cc
+returns c =
+    let a = c .before .before .before .before .before .before .before .args in
+    c .rules-by .ensures ∙
+    (λ i. tableBy (a .p .number) (a .lent .now) (getD (a .p .each) (c .before .before .before .before .kind-field .ensures i) noCell) (getD (a .p .each) (c .before .before .code-field .ensures i) noCell))
 
 pub rules-spec : {M : Type 1} → statement M
 rules-spec =

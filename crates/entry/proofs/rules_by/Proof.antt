@@ -1,4 +1,6 @@
 -- By the bytes of the two parts.
+use mathlib.Core.Path.{_∙_}
+use Rattle.row.specs.Table.{rulesFrom, tableOf}
 use borrow.Author.Needs.{needs}
 use Rattle.entry.proofs.rules_by.Statement.{statement}
 use Rattle.entry.proofs.rules_by.Tie as tie
@@ -19,7 +21,7 @@ rules-of-requires : tie.Need-rules-of-requires
 rules-of-requires c κs = search needs
 
 returns : tie.Need-returns
-returns c = cc
+returns c = c .rules-of .ensures ∙ (λ i. tableOf (rulesFrom (c .before .before .before .before .before .before .before .before .args .n) (c .before .before .before .bytes .ensures i) (c .before .bytes2 .ensures i)))
 
 pub rules-by-spec : {M : Type 1} → statement M
 rules-by-spec =

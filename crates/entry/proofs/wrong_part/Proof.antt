@@ -1,4 +1,7 @@
 -- By the bytes of the part.
+use mathlib.Core.Path.{_∙_}
+use Rattle.field.specs.Field.{readField}
+use Rattle.schedule.specs.Code.Kept.{mayJoin}
 use borrow.Author.Needs.{needs}
 use Rattle.entry.proofs.wrong_part.Statement.{statement}
 use Rattle.entry.proofs.wrong_part.Tie as tie
@@ -13,7 +16,10 @@ read-requires : tie.Need-read-requires
 read-requires c κs = search needs
 
 returns : tie.Need-returns
-returns c = cc
+returns c =
+    let a = c .before .before .before .before .before .args in
+    let e = c .read .ensures ∙ (λ i. readField (mayJoin (a .c .month) (a .c .schedule)) (a .c) (a .r) (c .before .bytes .ensures i)) in
+    λ i. e i .number
 
 pub wrong-part-spec : {M : Type 1} → statement M
 wrong-part-spec = tie.close (tie.spec slice-aggregate-bytes bytes-requires read-requires returns)

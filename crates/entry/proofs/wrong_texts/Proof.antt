@@ -1,4 +1,8 @@
 -- By the bytes of the part.
+use mathlib.Core.Path.{_∙_}
+use Rattle.line.specs.Fields.{split}
+use Rattle.schedule.specs.Code.Kept.{mayJoin}
+use Rattle.entry.specs.Code.Judge.{textsWrong}
 use borrow.Author.Needs.{needs}
 use Rattle.entry.proofs.wrong_texts.Statement.{statement}
 use Rattle.entry.proofs.wrong_texts.Tie as tie
@@ -13,7 +17,9 @@ wrong-text-requires : tie.Need-wrong-text-requires
 wrong-text-requires c κs = search needs
 
 returns : tie.Need-returns
-returns c = cc
+returns c =
+    let a = c .before .before .before .before .before .args in
+    c .wrong-text .ensures ∙ (λ i. textsWrong (mayJoin (a .c .month) (a .c .schedule)) (a .c) (split (c .before .bytes .ensures i)))
 
 pub wrong-texts-spec : {M : Type 1} → statement M
 wrong-texts-spec =

@@ -1,5 +1,6 @@
 -- By the length, the form and the range.
 -- Assumes nothing.
+use Rattle.number.specs.Code.Parts.{within}
 use mathlib.Core.Path.{_∙_, sym}
 use native.Mathlib.Omega.{arith}
 use borrow.Author.Needs.{needs}
@@ -27,7 +28,7 @@ within-requires c κs = search needs
 returns-2 : tie.Need-returns-2
 returns-2 c =
     let a = c .before .before .before .before .before .before .args in
-    cc (number-some (a .lo) (a .hi) (a .s .now) (sym (c .before .before .before .shortest .ensures) ∙ c .before .before .if2 .taken))
+    c .within .ensures ∙ (λ i. within (a .lo) (a .hi) (c .before .value .ensures i)) ∙ sym (number-some (a .lo) (a .hi) (a .s .now) (sym (c .before .before .before .shortest .ensures) ∙ c .before .before .if2 .taken))
 
 returns-3 : tie.Need-returns-3
 returns-3 c =

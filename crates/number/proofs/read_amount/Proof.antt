@@ -1,5 +1,6 @@
 -- By the part before the point: its length, its form, and what stands after it.
 -- Assumes nothing.
+use Rattle.number.specs.Code.Parts.{withFraction}
 use mathlib.Core.Path.{_∙_, sym}
 use native.Mathlib.Omega.{arith}
 use borrow.Author.Needs.{needs}
@@ -37,7 +38,7 @@ with-fraction-requires c κs =
 returns-2 : tie.Need-returns-2
 returns-2 c =
     let p = c .before .before .before .before .before .before .point in
-    cc (amount-well (c .before .before .before .before .before .before .before .before .args .s .now) (p .result) (p .ensures) (c .before .before .before .before .before .if1 .left) (sym (c .before .before .before .shortest .ensures) ∙ c .before .before .if2 .taken))
+    c .with-fraction .ensures ∙ (λ i. withFraction (c .before .value .ensures i) (c .before .before .before .before .before .before .before .before .args .s .now)) ∙ sym (amount-well (c .before .before .before .before .before .before .before .before .args .s .now) (p .result) (p .ensures) (c .before .before .before .before .before .if1 .left) (sym (c .before .before .before .shortest .ensures) ∙ c .before .before .if2 .taken))
 
 returns-3 : tie.Need-returns-3
 returns-3 c =

@@ -10,7 +10,7 @@ place-at-requires : tie.Need-place-at-requires
 place-at-requires c κs = search needs
 
 returns : tie.Need-returns
-returns c = cc
+returns c = λ i. record { number = c .before .half-at .ensures i; fields = c .place-at .ensures i }
 
 pub kept-of-spec : {M : Type 1} → statement M
 kept-of-spec = tie.close (tie.spec half-at-requires place-at-requires returns)

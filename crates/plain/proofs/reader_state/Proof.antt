@@ -13,7 +13,7 @@ sofar-requires : tie.Need-sofar-requires
 sofar-requires c κs = search needs
 
 returns : tie.Need-returns
-returns c = cc
+returns c = λ i. record { number = c .before .before .byte-at .ensures i; at = c .before .at .ensures i; sofar = c .sofar .ensures i }
 
 pub reader-state-spec : {M : Type 1} → statement M
 reader-state-spec = tie.close (tie.spec byte-at-requires at-requires sofar-requires returns)

@@ -1,5 +1,7 @@
 -- Number by number.
+use mathlib.Core.Path.{_∙_, ap}
 use borrow.Author.Needs.{needs}
+use Rattle.plain.specs.Records.{usageCodeOf}
 use Rattle.plain.proofs.record_111.Statement.{statement}
 use Rattle.plain.proofs.record_111.Tie as tie
 
@@ -22,7 +24,7 @@ half-at-requires-3 : tie.Need-half-at-requires-3
 half-at-requires-3 c κs = search needs
 
 returns : tie.Need-returns
-returns c = cc
+returns c = λ i. record { rp = record { 0 = c .before .before .before .before .before .half-at .ensures i }; kind = c .before .before .before .before .half-at2 .ensures i; code = (c .before .before .usage-code-of .ensures ∙ ap usageCodeOf (c .before .before .before .from .ensures)) i; name = c .before .place-at .ensures i; times = c .half-at3 .ensures i }
 
 pub record-111-spec : {M : Type 1} → statement M
 record-111-spec =

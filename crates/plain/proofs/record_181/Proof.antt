@@ -1,5 +1,7 @@
 -- Number by number.
+use mathlib.Core.Path.{_∙_, ap}
 use borrow.Author.Needs.{needs}
+use Rattle.plain.specs.Records.{supplementCodeOf}
 use Rattle.plain.proofs.record_181.Statement.{statement}
 use Rattle.plain.proofs.record_181.Tie as tie
 
@@ -25,7 +27,7 @@ place-at-requires-2 : tie.Need-place-at-requires-2
 place-at-requires-2 c κs = search needs
 
 returns : tie.Need-returns
-returns c = cc
+returns c = λ i. record { rp = record { 0 = c .before .before .before .before .before .before .half-at .ensures i }; serial = record { 0 = c .before .before .before .before .before .half-at2 .ensures i }; kind = c .before .before .before .before .half-at3 .ensures i; text = c .before .before .before .place-at .ensures i; code = (c .before .supplement-code-of .ensures ∙ ap supplementCodeOf (c .before .before .from .ensures)) i; site = c .place-at2 .ensures i }
 
 pub record-181-spec : {M : Type 1} → statement M
 record-181-spec =

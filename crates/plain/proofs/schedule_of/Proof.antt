@@ -16,7 +16,7 @@ flag-at-requires : tie.Need-flag-at-requires
 flag-at-requires c κs = search needs
 
 returns : tie.Need-returns
-returns c = cc
+returns c = λ i. record { letter = c .before .before .before .byte-at .ensures i; month = c .before .before .byte-at2 .ensures i; last = c .before .byte-at3 .ensures i; full = c .flag-at .ensures i }
 
 pub schedule-of-spec : {M : Type 1} → statement M
 schedule-of-spec =

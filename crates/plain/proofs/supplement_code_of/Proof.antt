@@ -1,5 +1,7 @@
 -- Number by number.
+use mathlib.Core.Path.{_∙_}
 use borrow.Author.Needs.{needs}
+use Rattle.plain.specs.Records.{supplementBy}
 use Rattle.plain.proofs.supplement_code_of.Statement.{statement}
 use Rattle.plain.proofs.supplement_code_of.Tie as tie
 
@@ -13,7 +15,7 @@ supplement-by-requires : tie.Need-supplement-by-requires
 supplement-by-requires c κs = search needs
 
 returns : tie.Need-returns
-returns c = cc
+returns c = c .supplement-by .ensures ∙ (λ i. supplementBy (c .before .before .at .ensures i) (c .before .supplement .ensures i))
 
 pub supplement-code-of-spec : {M : Type 1} → statement M
 supplement-code-of-spec =

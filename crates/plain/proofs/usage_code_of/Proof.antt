@@ -1,5 +1,7 @@
 -- Number by number.
+use mathlib.Core.Path.{_∙_}
 use borrow.Author.Needs.{needs}
+use Rattle.plain.specs.Records.{usageBy}
 use Rattle.plain.proofs.usage_code_of.Statement.{statement}
 use Rattle.plain.proofs.usage_code_of.Tie as tie
 
@@ -13,7 +15,7 @@ usage-by-requires : tie.Need-usage-by-requires
 usage-by-requires c κs = search needs
 
 returns : tie.Need-returns
-returns c = cc
+returns c = c .usage-by .ensures ∙ (λ i. usageBy (c .before .before .at .ensures i) (c .before .instruction .ensures i))
 
 pub usage-code-of-spec : {M : Type 1} → statement M
 usage-code-of-spec =

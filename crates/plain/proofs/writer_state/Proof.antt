@@ -13,7 +13,7 @@ sofar-requires : tie.Need-sofar-requires
 sofar-requires c κs = search needs
 
 returns : tie.Need-returns
-returns c = cc
+returns c = λ i. record { at = c .before .before .at .ensures i; closed = c .before .flag-at .ensures i; sofar = c .sofar .ensures i }
 
 pub writer-state-spec : {M : Type 1} → statement M
 writer-state-spec = tie.close (tie.spec at-requires flag-at-requires sofar-requires returns)

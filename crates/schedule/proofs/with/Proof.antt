@@ -11,7 +11,9 @@ full-requires : tie.Need-full-requires
 full-requires c κs = search needs
 
 returns : tie.Need-returns
-returns c = cc
+returns c =
+    let x = c .before .before .before .args .x in
+    λ i. record { letter = x .letter; month = x .month; last = c .before .last-day .ensures i; full = c .full .ensures i }
 
 pub with-spec : {M : Type 1} → statement M
 with-spec = tie.close (tie.spec last-day-requires full-requires returns)

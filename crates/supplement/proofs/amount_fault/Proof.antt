@@ -1,6 +1,6 @@
 -- The order judged by itself, and then the columns, as `amount_from` reads them.
 -- Assumes nothing.
-use mathlib.Core.Path.{_≡_}
+use mathlib.Core.Path.{_≡_, _∙_, sym}
 use mathlib.Core.Bool.{true, false}
 use borrow.Author.Needs.{needs}
 use lib.ListN.{getD}
@@ -22,13 +22,13 @@ amount-from-requires c κs = search needs
 returns : tie.Need-returns
 returns c =
     let s = c .before .before .before .before .before .before in
-    let e : has 0b11_1110 (digit (getD (s .args .s .now) 1 0)) ≡ true = cc in
+    let e : has 0b11_1110 (digit (getD (s .args .s .now) 1 0)) ≡ true = sym (c .before .before .before .has .ensures ∙ (λ i. has 0b11_1110 (c .before .before .before .before .digit-at .ensures i))) ∙ c .before .before .if1 .taken in
     rw (amount (s .args .s .now) (λ p. c .before .before .before .before .before .shared-slice-known .given p .fits) (s .pre), e) (c .before .amount-from .ensures .fault)
 
 returns-2 : tie.Need-returns-2
 returns-2 c =
     let s = c .before .before .before .before in
-    let e : has 0b11_1110 (digit (getD (s .args .s .now) 1 0)) ≡ false = cc in
+    let e : has 0b11_1110 (digit (getD (s .args .s .now) 1 0)) ≡ false = sym (c .before .has .ensures ∙ (λ i. has 0b11_1110 (c .before .before .digit-at .ensures i))) ∙ c .if1 .left in
     rw (amount (s .args .s .now) (λ p. c .before .before .before .shared-slice-known .given p .fits) (s .pre), e)
 
 pub amount-fault-spec : {M : Type 1} → statement M

@@ -1,10 +1,12 @@
 -- The masks up to the first 0 are the cells of the days.
 -- Assumes nothing.
-use Prim.Native.Nat.{_≤_}
-use mathlib.Core.Path.{sym}
+use Prim.Native.Nat.{_≤_, _-_}
+use mathlib.Core.Path.{sym, _∙_}
 use native.Mathlib.Omega.{arith}
 use borrow.Author.Needs.{needs}
+use lib.ListN.{length, take, replicate}
 use lib.Seq.{length-take-le}
+use Rattle.cells.specs.Code.Mask.{scan}
 use Rattle.supplement.proofs.Rows.{days, counted-most}
 use Rattle.supplement.proofs.days_fault.Statement.{statement}
 use Rattle.supplement.proofs.days_fault.Tie as tie
@@ -26,7 +28,7 @@ first-fault-requires c κs = search needs
 returns : tie.Need-returns
 returns c =
     let s = c .before .before .before .before in
-    cc (days (s .args .s .now) (λ p. c .before .before .before .shared-slice-known .given p .fits) (s .pre) (s .args .last))
+    c .first-fault .ensures ∙ (λ i. scan (take (c .before .before .day-count .ensures i) (replicate 6 0xFFFF_FFFE)) 1 (s .args .last) (s .args .s .now) (length (s .args .s .now) - 2) 0 2) ∙ (days (s .args .s .now) (λ p. c .before .before .before .shared-slice-known .given p .fits) (s .pre) (s .args .last))
 
 pub days-fault-spec : {M : Type 1} → statement M
 days-fault-spec =

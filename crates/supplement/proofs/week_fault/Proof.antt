@@ -1,5 +1,8 @@
 -- The first fault of the row, or else of the rule on the whole week.
 -- Assumes nothing.
+use mathlib.Core.Path.{_∙_}
+use Rattle.cells.specs.Code.Mask.{either}
+use Rattle.supplement.specs.Code.Read.{ruleOfWeek}
 use borrow.Author.Needs.{needs}
 use Rattle.supplement.proofs.Rows.{week}
 use Rattle.supplement.proofs.week_fault.Statement.{statement}
@@ -23,7 +26,8 @@ either-requires c κs = search needs
 returns : tie.Need-returns
 returns c =
     let s = c .before .before .before .before .before .before in
-    cc (week (s .args .s .now) (λ p. c .before .before .before .before .before .shared-slice-known .given p .fits) (s .pre))
+    let r = c .before .week-rule .ensures ∙ (λ i. ruleOfWeek (c .before .before .empty-week .ensures i)) in
+    c .either .ensures ∙ (λ i. either (c .before .before .before .first-fault .ensures i) (r i)) ∙ (week (s .args .s .now) (λ p. c .before .before .before .before .before .shared-slice-known .given p .fits) (s .pre))
 
 pub week-fault-spec : {M : Type 1} → statement M
 week-fault-spec =

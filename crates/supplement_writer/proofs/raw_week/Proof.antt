@@ -1,5 +1,6 @@
 -- Character by character.
 -- Assumes nothing.
+use mathlib.Core.List.{[], _∷_}
 use borrow.Author.Needs.{needs}
 use Rattle.supplement_writer.proofs.raw_week.Statement.{statement}
 use Rattle.supplement_writer.proofs.raw_week.Tie as tie
@@ -26,7 +27,7 @@ letter-requires-7 : tie.Need-letter-requires-7
 letter-requires-7 c κs = search needs
 
 returns : tie.Need-returns
-returns c = cc
+returns c = λ i. c .before .before .before .before .before .before .before .args .letter ∷ c .before .before .before .before .before .before .letter .ensures i ∷ c .before .before .before .before .before .letter2 .ensures i ∷ c .before .before .before .before .letter3 .ensures i ∷ c .before .before .before .letter4 .ensures i ∷ c .before .before .letter5 .ensures i ∷ c .before .letter6 .ensures i ∷ c .letter7 .ensures i ∷ []
 
 pub raw-week-spec : {M : Type 1} → statement M
 raw-week-spec =

@@ -1,5 +1,6 @@
 -- The three comparisons joined.
 -- Assumes nothing.
+use mathlib.Core.Bool.{_&&_}
 use borrow.Author.Needs.{needs}
 use Rattle.supplement_writer.proofs.same.Statement.{statement}
 use Rattle.supplement_writer.proofs.same.Tie as tie
@@ -19,7 +20,7 @@ same-days-requires : tie.Need-same-days-requires
 same-days-requires c κs = search needs
 
 returns : tie.Need-returns
-returns c = cc
+returns c = λ i. c .before .before .same-head .ensures i && (c .before .same-week .ensures i && c .same-days .ensures i)
 
 pub same-spec : {M : Type 1} → statement M
 same-spec = tie.close (tie.spec same-head-requires same-week-requires same-days-requires returns)

@@ -1,6 +1,6 @@
 -- The characters written are read back and compared: `written` says that this answer is the right one.
 -- Assumes nothing.
-use mathlib.Core.Path.{_≡_, subst}
+use mathlib.Core.Path.{_≡_, _∙_, sym, subst}
 use borrow.Author.Needs.{needs}
 use Rattle.supplement.specs.Supplement.{readSupplement}
 use Rattle.supplement_writer.specs.Code.Write.{raw, agrees, answer}
@@ -28,7 +28,11 @@ answer-requires c κs = search needs
 returns : tie.Need-returns
 returns c =
     let x = c .before .before .before .before .before .args .x in
-    let e : answer (agrees (readSupplement (raw x)) x) (raw x) ≡ c .answer .result = cc in
+    let e : answer (agrees (readSupplement (raw x)) x) (raw x) ≡ c .answer .result =
+    let r = c .before .before .before .before .raw .ensures in
+    let a = c .before .agrees .ensures ∙ (λ j. agrees ((c .before .before .read .ensures ∙ (λ k. readSupplement (r k))) j) x) in
+    sym (c .answer .ensures ∙ (λ j. answer (a j) (r j)))
+    in
     subst (λ (w : Written). WritesSupplement x w) e (written x)
 
 pub write-spec : {M : Type 1} → statement M

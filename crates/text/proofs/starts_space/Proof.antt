@@ -1,7 +1,10 @@
 -- By the number of bytes.
 -- Assumes nothing.
-use mathlib.Core.Path.{sym}
+use mathlib.Core.Path.{_∙_, sym}
+use mathlib.Core.Bool.{_||_}
 use native.Mathlib.Omega.{arith}
+use lib.Dec.{eqb}
+use lib.ListN.{getD}
 use borrow.Author.Needs.{needs}
 use Rattle.text.proofs.Scan.{none-starts, one-starts, more-starts}
 use Rattle.text.proofs.starts_space.Statement.{statement}
@@ -23,7 +26,9 @@ wide-space-requires : tie.Need-wide-space-requires
 wide-space-requires c κs = search needs
 
 returns-3 : tie.Need-returns-3
-returns-3 c = cc (more-starts (c .before .before .before .before .before .before .args .s .now) (omega arith))
+returns-3 c =
+    let s = c .before .before .before .before .before .before .args .s .now in
+    (λ i. eqb (getD s 0 0) 0x20 || c .wide-space .ensures i) ∙ sym (more-starts s (omega arith))
 
 pub starts-space-spec : {M : Type 1} → statement M
 starts-space-spec =

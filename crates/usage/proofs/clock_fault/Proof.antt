@@ -1,7 +1,11 @@
 -- `usage::clock_fault` meets its contract: the row as far as it is named, by `Masks.clock`.
+use Prim.Native.Nat.{_+_, _-_, min}
+use mathlib.Core.Path.{_∙_}
+use Rattle.cells.specs.Code.Mask.{scan}
+use Rattle.usage.specs.Code.Sets as masks
 use native.Mathlib.Omega.{arith}
 use borrow.Author.Needs.{needs}
-use lib.ListN.{length-take}
+use lib.ListN.{length, take, length-take}
 use Rattle.usage.proofs.Masks.{clock}
 use Rattle.usage.proofs.clock_fault.Statement.{statement}
 use Rattle.usage.proofs.clock_fault.Tie as tie
@@ -30,7 +34,8 @@ first-fault-requires c κs = search needs
 returns : tie.Need-returns
 returns c =
     let f = c .before .before .before .before .before .before in
-    cc (clock (f .args .s .now) (f .pre) (λ p. omega (arith, c .before .before .before .before .before .shared-slice-known .given p)))
+    let n = c .before .before .named .ensures ∙ (λ i. min (c .before .before .before .digit .ensures i) 8) in
+    c .first-fault .ensures ∙ (λ i. scan (take (n i + 1) masks.clock) 2 36 (f .args .s .now) (length (f .args .s .now) - 3) 0 3) ∙ (clock (f .args .s .now) (f .pre) (λ p. omega (arith, c .before .before .before .before .before .shared-slice-known .given p)))
 
 pub clock-fault-spec : {M : Type 1} → statement M
 clock-fault-spec =

@@ -1,4 +1,8 @@
 -- `usage::count_fault` meets its contract: one test, of what `digit` and `count` give.
+use mathlib.Core.Path.{_∙_}
+use mathlib.Core.List.{[], _∷_}
+use lib.Dec.{eqb}
+use Rattle.cells.specs.Test.{test, first}
 use borrow.Author.Needs.{needs}
 use Rattle.usage.proofs.count_fault.Statement.{statement}
 use Rattle.usage.proofs.count_fault.Tie as tie
@@ -16,7 +20,7 @@ test-requires : tie.Need-test-requires
 test-requires c κs = search needs
 
 returns : tie.Need-returns
-returns c = cc
+returns c = c .test .ensures ∙ (λ i. first (test 7 4 (eqb (c .before .before .digit .ensures i) (c .before .count .ensures i)) ∷ []))
 
 pub count-fault-spec : {M : Type 1} → statement M
 count-fault-spec =

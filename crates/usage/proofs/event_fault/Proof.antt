@@ -1,4 +1,8 @@
 -- `usage::event_fault` meets its contract: the three faults, in order, by `Faults.event`.
+use mathlib.Core.Path.{_∙_}
+use mathlib.Core.List.{[], _∷_}
+use Rattle.cells.specs.Test.{test, first}
+use Rattle.cells.specs.Code.Mask.{either}
 use native.Mathlib.Omega.{arith}
 use borrow.Author.Needs.{needs}
 use Rattle.usage.proofs.Faults.{event}
@@ -44,7 +48,9 @@ either-requires-2 c κs = search needs
 returns : tie.Need-returns
 returns c =
     let f = c .before .before .before .before .before .before .before .before .before .before .before .before .before in
-    cc (event (f .args .s .now) (f .pre) (λ p. omega (arith, c .before .before .before .before .before .before .before .before .before .before .before .before .shared-slice-known .given p)))
+    let g = c .before .before .before .before .before .before .before .before .before .test .ensures ∙ (λ i. first (test 5 4 (c .before .before .before .before .before .before .before .before .before .before .among .ensures i) ∷ [])) in
+    let h = c .before .before .before .before .test2 .ensures ∙ (λ i. first (test 8 5 (c .before .before .before .before .before .in-table .ensures i) ∷ [])) in
+    c .either2 .ensures ∙ (λ i. either (g i) ((c .before .either .ensures ∙ (λ j. either (h j) (c .before .before .first-fault .ensures j))) i)) ∙ (event (f .args .s .now) (f .pre) (λ p. omega (arith, c .before .before .before .before .before .before .before .before .before .before .before .before .shared-slice-known .given p)))
 
 pub event-fault-spec : {M : Type 1} → statement M
 event-fault-spec =

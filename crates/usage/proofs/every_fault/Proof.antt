@@ -1,4 +1,5 @@
 -- `usage::every_fault` meets its contract: the row of kind 2, by `Masks.every`.
+use mathlib.Core.Path.{_∙_}
 use native.Mathlib.Omega.{arith}
 use borrow.Author.Needs.{needs}
 use Rattle.usage.proofs.Masks.{every}
@@ -14,7 +15,7 @@ first-fault-requires c κs = search needs
 returns : tie.Need-returns
 returns c =
     let f = c .before .before .before in
-    cc (every (f .args .s .now) (f .pre) (λ p. omega (arith, c .before .before .shared-slice-known .given p)))
+    c .first-fault .ensures ∙ (every (f .args .s .now) (f .pre) (λ p. omega (arith, c .before .before .shared-slice-known .given p)))
 
 pub every-fault-spec : {M : Type 1} → statement M
 every-fault-spec = tie.close (tie.spec slice-aggregate-first-fault first-fault-requires returns)

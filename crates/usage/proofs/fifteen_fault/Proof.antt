@@ -1,7 +1,9 @@
 -- `usage::fifteen_fault` meets its contract: the 10th character is P or not.
+use mathlib.Core.Path.{_∙_}
+use mathlib.Core.List.{[], _∷_}
 use borrow.Author.Needs.{needs}
 use borrow.Author.Tests.{eq-eqb}
-use Rattle.cells.specs.Test.{first}
+use Rattle.cells.specs.Test.{test, first}
 use Rattle.cells.specs.Text.{among}
 use Rattle.cells.proofs.Tests.{tests}
 use Rattle.usage.proofs.fifteen_fault.Statement.{statement}
@@ -18,7 +20,7 @@ test-requires c κs = search needs
 
 returns : tie.Need-returns
 unfolding among
-returns c = simp (eq-eqb _ _ (c .before .before .if1 .taken)) (cc)
+returns c = simp (eq-eqb _ _ (c .before .before .if1 .taken)) (c .test .ensures ∙ (λ i. first (test 8 10 (c .before .full-day .ensures i) ∷ [])))
 
 returns-2 : tie.Need-returns-2
 unfolding among first

@@ -1,4 +1,9 @@
 -- `usage::frame_fault` meets its contract: the three faults, in order, by `Faults.framed`.
+use mathlib.Core.Path.{_∙_}
+use mathlib.Core.List.{[], _∷_}
+use Rattle.cells.specs.Test.{test, first}
+use Rattle.cells.specs.Cells.{char}
+use Rattle.cells.specs.Code.Mask.{value, has, either}
 use native.Mathlib.Omega.{arith}
 use borrow.Author.Needs.{needs}
 use Rattle.usage.proofs.Faults.{framed}
@@ -47,7 +52,10 @@ either-requires-2 c κs = search needs
 returns : tie.Need-returns
 returns c =
     let f = c .before .before .before .before .before .before .before .before .before .before .before .before .before .before in
-    cc (framed (f .args .s .now) (f .pre) (λ p. omega (arith, c .before .before .before .before .before .before .before .before .before .before .before .before .before .shared-slice-known .given p)))
+    let g = c .before .before .before .before .before .before .before .before .test .ensures ∙ (λ i. first (test 2 1 (c .before .before .before .before .before .before .before .before .before .among .ensures i) ∷ [])) in
+    let h = c .before .before .before .before .before .test2 .ensures ∙ (λ i. first (test 3 2 ((c .before .before .before .before .before .before .among2 .ensures ∙ (λ j. has (c .before .before .before .before .before .before .before .details .ensures j) (value (char (f .args .s .now) 2)))) i) ∷ [])) in
+    let k = c .before .before .test3 .ensures ∙ (λ i. first (test 4 3 ((c .before .before .before .among3 .ensures ∙ (λ j. has (c .before .before .before .before .kinds .ensures j) (value (char (f .args .s .now) 3)))) i) ∷ [])) in
+    c .either2 .ensures ∙ (λ i. either (g i) ((c .before .either .ensures ∙ (λ j. either (h j) (k j))) i)) ∙ (framed (f .args .s .now) (f .pre) (λ p. omega (arith, c .before .before .before .before .before .before .before .before .before .before .before .before .before .shared-slice-known .given p)))
 
 pub frame-fault-spec : {M : Type 1} → statement M
 frame-fault-spec =

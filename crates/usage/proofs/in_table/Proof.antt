@@ -25,7 +25,7 @@ returns : tie.Need-returns Inv-loop μ-loop
 returns c =
     let a = c .before .before .before .before .args in
     let l = c .before .before .before .loop in
-    sym (found (a .a) (a .b) (a .c) (search needs) (search needs) (search needs) (l .k) (search needs) (cc)) ∙ l .inv .1
+    sym (found (a .a) (a .b) (a .c) (search needs) (search needs) (search needs) (l .k) (search needs) (sym (c .before .in-row .ensures) ∙ c .if1 .taken)) ∙ l .inv .1
 
 add-k : tie.Need-add-k Inv-loop μ-loop
 add-k c = search needs
@@ -37,7 +37,7 @@ loop-again : tie.Need-loop-again Inv-loop μ-loop
 loop-again c =
     let a = c .before .before .before .before .args in
     let l = c .before .before .before .loop in
-    (search needs, sym (step (a .a) (a .b) (a .c) (search needs) (search needs) (search needs) (l .k) (search needs) (cc)) ∙ l .inv .1)
+    (search needs, sym (step (a .a) (a .b) (a .c) (search needs) (search needs) (search needs) (l .k) (search needs) (sym (c .before .in-row .ensures) ∙ c .if1 .left)) ∙ l .inv .1)
 
 returns-2 : tie.Need-returns-2 Inv-loop μ-loop
 unfolding inTable

@@ -1,4 +1,6 @@
 -- `usage::meal_fault` meets its contract: the row and the two rules after it, in order, by `Faults.meals`.
+use mathlib.Core.Path.{_∙_}
+use Rattle.cells.specs.Code.Mask.{either}
 use native.Mathlib.Omega.{arith}
 use borrow.Author.Needs.{needs}
 use Rattle.usage.proofs.Faults.{meals}
@@ -26,7 +28,7 @@ either-requires-2 c κs = search needs
 returns : tie.Need-returns
 returns c =
     let f = c .before .before .before .before .before .before .before in
-    cc (meals (f .args .s .now) (f .pre) (λ p. omega (arith, c .before .before .before .before .before .before .shared-slice-known .given p)))
+    c .either2 .ensures ∙ (λ i. either (c .before .before .before .before .first-fault .ensures i) ((c .before .either .ensures ∙ (λ j. either (c .before .before .before .count-fault .ensures j) (c .before .before .fifteen-fault .ensures j))) i)) ∙ (meals (f .args .s .now) (f .pre) (λ p. omega (arith, c .before .before .before .before .before .before .shared-slice-known .given p)))
 
 pub meal-fault-spec : {M : Type 1} → statement M
 meal-fault-spec =

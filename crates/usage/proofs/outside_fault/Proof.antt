@@ -1,4 +1,6 @@
 -- `usage::outside_fault` meets its contract: the row and the rule after it, by `Faults.outside`.
+use mathlib.Core.Path.{_∙_}
+use Rattle.cells.specs.Code.Mask.{either}
 use native.Mathlib.Omega.{arith}
 use borrow.Author.Needs.{needs}
 use Rattle.usage.proofs.Faults.{outside}
@@ -20,7 +22,7 @@ either-requires c κs = search needs
 returns : tie.Need-returns
 returns c =
     let f = c .before .before .before .before .before in
-    cc (outside (f .args .s .now) (f .pre) (λ p. omega (arith, c .before .before .before .before .shared-slice-known .given p)))
+    c .either .ensures ∙ (λ i. either (c .before .before .first-fault .ensures i) (c .before .count-fault .ensures i)) ∙ (outside (f .args .s .now) (f .pre) (λ p. omega (arith, c .before .before .before .before .shared-slice-known .given p)))
 
 pub outside-fault-spec : {M : Type 1} → statement M
 outside-fault-spec =

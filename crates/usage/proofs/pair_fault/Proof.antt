@@ -1,4 +1,9 @@
 -- `usage::pair_fault` meets its contract: the pair, then 0s, by `Faults.pair`.
+use mathlib.Core.Path.{_∙_}
+use mathlib.Core.List.{[], _∷_}
+use Rattle.cells.specs.Test.{test, first}
+use Rattle.cells.specs.Cells.{char}
+use Rattle.cells.specs.Code.Mask.{value, has, either}
 use native.Mathlib.Omega.{arith}
 use borrow.Author.Needs.{needs}
 use Rattle.usage.proofs.Faults.{pair}
@@ -32,7 +37,8 @@ either-requires c κs = search needs
 returns : tie.Need-returns
 returns c =
     let f = c .before .before .before .before .before .before .before .before .before in
-    cc (pair (f .args .s .now) (f .pre) (λ p. omega (arith, c .before .before .before .before .before .before .before .before .shared-slice-known .given p)))
+    let g = c .before .before .before .test .ensures ∙ (λ i. first (test 8 4 ((c .before .before .before .before .among .ensures ∙ (λ j. has (c .before .before .before .before .before .before .pairs .ensures j) (value (char (f .args .s .now) 5)))) i) ∷ [])) in
+    c .either .ensures ∙ (λ i. either (g i) (c .before .first-fault .ensures i)) ∙ (pair (f .args .s .now) (f .pre) (λ p. omega (arith, c .before .before .before .before .before .before .before .before .shared-slice-known .given p)))
 
 pub pair-fault-spec : {M : Type 1} → statement M
 pair-fault-spec =

@@ -1,7 +1,9 @@
 -- `usage::read_sixteen` meets its contract: the fault of the frame, then that of the timing, by `Bridge.then` of cells.
-use mathlib.Core.Path.{refl}
+use mathlib.Core.Path.{refl, sym, _∙_}
 use borrow.Author.Needs.{needs}
 use borrow.Author.Tests.{eq-eqb}
+use Rattle.cells.specs.Test.{judge}
+use Rattle.cells.specs.Code.Mask.{either}
 use Rattle.cells.proofs.Bridge.{then}
 use Rattle.usage.specs.Usage.{frame, timing, readUsage}
 use Rattle.usage.proofs.read_sixteen.Statement.{statement}
@@ -26,7 +28,8 @@ returns : tie.Need-returns
 unfolding readUsage
 returns c =
     let s = c .before .before .before .before .before .before .args .s .now in
-    simp (eq-eqb _ _ (c .before .before .before .before .before .before .pre)) (cc (then (frame s) (timing s) (refl, (refl, (refl, tt)))))
+    let f = c .before .before .either .ensures ∙ (λ i. either (c .before .before .before .before .frame-fault .ensures i) (c .before .before .before .timing-fault .ensures i)) ∙ sym (then (frame s) (timing s) (refl, (refl, (refl, tt)))) in
+    rw (eq-eqb _ _ (c .before .before .before .before .before .before .pre)) (c .conclude .ensures ∙ (λ i. judge (f i) (c .before .said .ensures i)))
 
 pub read-sixteen-spec : {M : Type 1} → statement M
 read-sixteen-spec =

@@ -1,4 +1,5 @@
 -- `usage_writer::clock_tail` meets its contract: each character is what `hour_letter` gives.
+use mathlib.Core.List.{[], _∷_}
 use borrow.Author.Needs.{needs}
 use Rattle.usage_writer.proofs.clock_tail.Statement.{statement}
 use Rattle.usage_writer.proofs.clock_tail.Tie as tie
@@ -28,7 +29,7 @@ hour-letter-requires-8 : tie.Need-hour-letter-requires-8
 hour-letter-requires-8 c κs = search needs
 
 returns : tie.Need-returns
-returns c = cc
+returns c = λ i. c .before .before .before .before .before .before .before .hour-letter .ensures i ∷ c .before .before .before .before .before .before .hour-letter2 .ensures i ∷ c .before .before .before .before .before .hour-letter3 .ensures i ∷ c .before .before .before .before .hour-letter4 .ensures i ∷ c .before .before .before .hour-letter5 .ensures i ∷ c .before .before .hour-letter6 .ensures i ∷ c .before .hour-letter7 .ensures i ∷ c .hour-letter8 .ensures i ∷ 48 ∷ 48 ∷ 48 ∷ 48 ∷ []
 
 pub clock-tail-spec : {M : Type 1} → statement M
 clock-tail-spec =

@@ -1,4 +1,5 @@
 -- `usage_writer::day_tail` meets its contract: each character is what its number is written as.
+use mathlib.Core.List.{[], _∷_}
 use borrow.Author.Needs.{needs}
 use Rattle.usage_writer.proofs.day_tail.Statement.{statement}
 use Rattle.usage_writer.proofs.day_tail.Tie as tie
@@ -19,7 +20,7 @@ hour-letter-requires : tie.Need-hour-letter-requires
 hour-letter-requires c κs = search needs
 
 returns : tie.Need-returns
-returns c = cc
+returns c = λ i. c .before .before .before .before .letter .ensures i ∷ c .before .before .before .letter2 .ensures i ∷ c .before .before .before .before .before .args .lunch ∷ c .before .before .letter3 .ensures i ∷ c .before .mark .ensures i ∷ c .hour-letter .ensures i ∷ 48 ∷ 48 ∷ 48 ∷ 48 ∷ 48 ∷ 48 ∷ []
 
 pub day-tail-spec : {M : Type 1} → statement M
 day-tail-spec =

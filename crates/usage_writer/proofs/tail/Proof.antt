@@ -1,5 +1,5 @@
 -- `usage_writer::tail` meets its contract: the tests of the kind, in their order.
-use mathlib.Core.Path.{_≡_}
+use mathlib.Core.Path.{_≡_, _∙_}
 use borrow.Author.Needs.{needs}
 use Rattle.cells.specs.Code.Mask.{letter}
 use Rattle.cells.proofs.Tests.{tests}
@@ -17,7 +17,7 @@ returns : tie.Need-returns
 unfolding tail
 returns c =
     let i = c .before .before .before .before .args .i in
-    let e : c .day-tail .result ≡ dayTail (i .occasions) (letter (i .occasions .lunch)) = cc in search tests
+    let e : c .day-tail .result ≡ dayTail (i .occasions) (letter (i .occasions .lunch)) = c .day-tail .ensures ∙ (λ j. dayTail (i .occasions) (c .before .letter .ensures j)) in search tests
 
 hour-letter-requires : tie.Need-hour-letter-requires
 hour-letter-requires c κs = search needs
@@ -29,7 +29,7 @@ returns-2 : tie.Need-returns-2
 unfolding tail
 returns-2 c =
     let i = c .before .before .before .before .before .before .args .i in
-    let e : c .lone-tail .result ≡ loneTail (hourLetter (i .start)) = cc in search tests
+    let e : c .lone-tail .result ≡ loneTail (hourLetter (i .start)) = c .lone-tail .ensures ∙ (λ j. loneTail (c .before .hour-letter .ensures j)) in search tests
 
 clock-tail-requires : tie.Need-clock-tail-requires
 clock-tail-requires c κs = search needs
@@ -55,7 +55,7 @@ returns-5 : tie.Need-returns-5
 unfolding tail
 returns-5 c =
     let i = c .before .before .before .before .before .before .before .before .before .before .before .before .args .i in
-    let e : c .day-tail2 .result ≡ dayTail (i .occasions) (mark (i .occasions .lunch)) = cc in search tests
+    let e : c .day-tail2 .result ≡ dayTail (i .occasions) (mark (i .occasions .lunch)) = c .day-tail2 .ensures ∙ (λ j. dayTail (i .occasions) (c .before .mark .ensures j)) in search tests
 
 letter-requires-2 : tie.Need-letter-requires-2
 letter-requires-2 c κs = search needs
@@ -67,7 +67,7 @@ returns-6 : tie.Need-returns-6
 unfolding tail
 returns-6 c =
     let i = c .before .before .before .before .before .before .before .before .before .before .before .before .args .i in
-    let e : c .lone-tail2 .result ≡ loneTail (letter (i .about)) = cc in search tests
+    let e : c .lone-tail2 .result ≡ loneTail (letter (i .about)) = c .lone-tail2 .ensures ∙ (λ j. loneTail (c .before .letter2 .ensures j)) in search tests
 
 pub tail-spec : {M : Type 1} → statement M
 tail-spec =

@@ -1,5 +1,5 @@
 -- `usage_writer::write` meets its contract: what is written is read back and compared, by `Writing.written`.
-use mathlib.Core.Path.{_≡_, subst}
+use mathlib.Core.Path.{_≡_, _∙_, sym, subst}
 use borrow.Author.Needs.{needs}
 use Rattle.usage_writer.specs.Code.Write.{raw, agrees, answer}
 use Rattle.usage.specs.Usage.{said, readUsage}
@@ -28,8 +28,12 @@ returns : tie.Need-returns
 returns c =
     let i = c .before .before .before .before .before .args .i in
     let u = c .before .before .read .result in
-    let r : said u ≡ readUsage (raw i) = cc in
-    let e : answer (agrees u i) (raw i) ≡ c .answer .result = cc in
+    let r : said u ≡ readUsage (raw i) =
+    c .before .before .read .ensures ∙ (λ j. readUsage (c .before .before .before .before .raw .ensures j))
+    in
+    let e : answer (agrees u i) (raw i) ≡ c .answer .result =
+    sym (c .answer .ensures ∙ (λ j. answer (c .before .agrees .ensures j) (c .before .before .before .before .raw .ensures j)))
+    in
     subst (λ (w : Written). WritesUsage i w) e (written i u r)
 
 pub write-spec : {M : Type 1} → statement M

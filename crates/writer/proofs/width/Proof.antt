@@ -1,4 +1,5 @@
 -- The bytes of the part.
+use lib.ListN.{length}
 use borrow.Author.Needs.{needs}
 use Rattle.writer.proofs.width.Statement.{statement}
 use Rattle.writer.proofs.width.Tie as tie
@@ -10,7 +11,7 @@ bytes-requires : tie.Need-bytes-requires
 bytes-requires c κs = search needs
 
 returns : tie.Need-returns
-returns c = cc
+returns c = λ i. length (c .bytes .ensures i)
 
 pub width-spec : {M : Type 1} → statement M
 width-spec = tie.close (tie.spec slice-aggregate-bytes bytes-requires returns)

@@ -10,7 +10,7 @@ era-requires c κs = search needs
 
 returns : tie.Need-returns
 unfolding makeDate
-returns c = cc
+returns c = c .era .ensures
 
 pub of-spec : {M : Type 1} → statement M
 of-spec = tie.close (tie.spec era-requires returns)

@@ -10,7 +10,7 @@ held-requires c κs = search needs
 
 returns : tie.Need-returns
 unfolding makeWestern
-returns c = cc
+returns c = c .held .ensures
 
 pub western-spec : {M : Type 1} → statement M
 western-spec = tie.close (tie.spec held-requires returns)
