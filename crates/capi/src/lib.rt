@@ -146,10 +146,10 @@ pub extern "C" fn yws_sheet_next(
 pub extern "C" fn yws_writer_open(out: &mut [u8], state: &mut [u64; 11]) -> u8
     ensures { λ r. ⌜ OpensBuffer (openBuffer (now (out .entry))) r (now (out .exit)) (now (state .exit)) ⌝ }
 {
-    let w = writer::open(out);
-    let t = w.state;
+    let opened = writer::open(out);
+    let t = opened.state;
     *state = plain::writer_numbers(t);
-    w.number
+    opened.number
 }
 
 // Puts a record.
@@ -163,16 +163,16 @@ pub extern "C" fn yws_writer_put(
 ) -> u8
     ensures { λ r. ⌜ Puts (putRecord (now (out .entry)) (writerOf (now (state .entry))) (recordOf (now (numbers .entry))) (now (lent .entry))) (now (state .entry)) r (now (own .exit)) (now (out .exit)) (now (state .exit)) ⌝ }
 {
-    let w = writer::put(
+    let put = writer::put(
         out,
         plain::writer_state(state),
         plain::record(numbers),
         lent,
     );
-    let t = w.state;
-    *state = told::state_after(w.number, plain::writer_numbers(t), *state);
-    *own = w.own as u64;
-    w.number
+    let t = put.state;
+    *state = told::state_after(put.number, plain::writer_numbers(t), *state);
+    *own = put.own as u64;
+    put.number
 }
 
 // Writes the end.
@@ -180,11 +180,11 @@ pub extern "C" fn yws_writer_put(
 pub extern "C" fn yws_writer_close(out: &mut [u8], state: &mut [u64; 11], own: &mut u64) -> u8
     ensures { λ r. ⌜ Puts (closeBuffer (now (out .entry)) (writerOf (now (state .entry)))) (now (state .entry)) r (now (own .exit)) (now (out .exit)) (now (state .exit)) ⌝ }
 {
-    let w = writer::close(out, plain::writer_state(state));
-    let t = w.state;
-    *state = told::state_after(w.number, plain::writer_numbers(t), *state);
-    *own = w.own as u64;
-    w.number
+    let closed = writer::close(out, plain::writer_state(state));
+    let t = closed.state;
+    *state = told::state_after(closed.number, plain::writer_numbers(t), *state);
+    *own = closed.own as u64;
+    closed.number
 }
 
 // ---- dates
