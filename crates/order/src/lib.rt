@@ -82,7 +82,13 @@ fn anew(last: u16, n: u16) -> bool
 fn may(last: u16, n: u16) -> bool
     ensures { λ r. ⌜ r ≡ mayOf last n ⌝ }
 {
-    anew(last, n) | (rises(last, n) & !skips(last, n))
+    if anew(last, n) {
+        return true;
+    }
+    if rises(last, n) {
+        return !skips(last, n);
+    }
+    false
 }
 
 // 32 where records put before n would help it: a header record that does not rise is past help.

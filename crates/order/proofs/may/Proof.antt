@@ -1,4 +1,6 @@
--- The answer is made of what the three calls ensure.
+-- By whether a record begins anew, and else by whether it rises.
+use mathlib.Core.Path.{_∙_, sym, ap}
+use mathlib.Core.Bool.{not}
 use borrow.Author.Needs.{needs}
 use Rattle.order.specs.Code.Next.{may}
 use Rattle.order.proofs.may.Statement.{statement}
@@ -7,15 +9,26 @@ use Rattle.order.proofs.may.Tie as tie
 anew-requires : tie.Need-anew-requires
 anew-requires c κs = search needs
 
+returns : tie.Need-returns
+unfolding may
+returns c = rw (sym (c .before .anew .ensures) ∙ c .if1 .taken)
+
 rises-requires : tie.Need-rises-requires
 rises-requires c κs = search needs
 
 skips-requires : tie.Need-skips-requires
 skips-requires c κs = search needs
 
-returns : tie.Need-returns
+returns-2 : tie.Need-returns-2
 unfolding may
-returns c = cc
+returns-2 c =
+    rw (sym (c .before .before .before .before .anew .ensures) ∙ c .before .before .before .if1 .left, sym (c .before .before .rises .ensures) ∙ c .before .if2 .taken)
+    (ap not (c .skips .ensures))
+
+returns-3 : tie.Need-returns-3
+unfolding may
+returns-3 c = rw (sym (c .before .before .before .anew .ensures) ∙ c .before .before .if1 .left, sym (c .before .rises .ensures) ∙ c .if2 .left)
 
 pub may-spec : {M : Type 1} → statement M
-may-spec = tie.close (tie.spec anew-requires rises-requires skips-requires returns)
+may-spec =
+    tie.close (tie.spec anew-requires returns rises-requires skips-requires returns-2 returns-3)
