@@ -2,15 +2,15 @@
 -- Assumes nothing.
 use Prim.Native.Nat.{ℕ, zero, suc, _+_, _-_, _≤_, _<_}
 use mathlib.Core.Path.{_≡_, refl, sym, ap, _∙_, subst}
-use mathlib.Core.Bool.{Bool, true, false, cond, _&&_, _||_}
+use mathlib.Core.Bool.{Bool, true}
 use mathlib.Core.List.{List, [], _∷_, _++_}
 use native.Mathlib.Omega.{arith}
 use native.Mathlib.Nat.{add-zero}
 use borrow.Author.Tests.{eqb-true, eqb-false}
 use lib.Dec.{eqb}
-use lib.ListN.{length, getD, drop, replicate, List·getD-append, length-append, length-drop}
+use lib.ListN.{length, getD, drop, List·getD-append, length-append, length-drop}
 use Rattle.cells.proofs.Split.{split as cases}
-use Rattle.line.specs.Fields.{split, join, line}
+use Rattle.line.specs.Fields.{join, line}
 use Rattle.line.proofs.Laws.{join-split}
 use Rattle.date.specs.Date.{readDate}
 use Rattle.usage.specs.Usage.{readUsage}
@@ -26,9 +26,8 @@ use Rattle.row.specs.declared.Row.{Row}
 use Rattle.row.proofs.Walk.{inside}
 use Rattle.row.proofs.Each.{as-many}
 use Rattle.record.specs.Record.{offset, placeOf, textAt, dateIn, usageIn, supplementIn, recordOf}
-use Rattle.record.specs.Code.Built.{value, placeIn, builtOf}
+use Rattle.record.specs.Code.Built.{placeIn, builtOf}
 use Rattle.record.specs.declared.Place.{Place}
-use Rattle.record.specs.declared.Record.{Record}
 use Rattle.record.specs.declared.Record.the-variants.{Issue, Rp, Usage, Supplement as Supply, Drug, Kept}
 use Rattle.record.proofs.Stands.{stands}
 

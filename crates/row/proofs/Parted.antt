@@ -5,7 +5,6 @@ use mathlib.Core.Path.{_≡_, refl, sym, ap, ap₂, subst, _∙_}
 use mathlib.Core.Bool.{true, false, cond}
 use mathlib.Core.List.{List, [], _∷_}
 use native.Mathlib.Nat.{add-zero}
-use native.Mathlib.Numerals.{add-one}
 use native.Mathlib.Omega.{arith}
 use borrow.Author.Tests.{eqb-true, eq-eqb, lt-ltb, le-ltb, ltb-true, ltb-false}
 use lib.Dec.{ltb, eqb}
@@ -18,7 +17,7 @@ use Rattle.row.specs.Table.{nth, kindField, codeField}
 use Rattle.row.specs.Row.{fieldsAt, lineEnds}
 use Rattle.row.specs.Code.Walk.{widthOf, cutFrom, marks}
 use Rattle.row.specs.declared.Cut.{Cut}
-use Rattle.row.proofs.Walk.{within, size, first, later, last, more, more-fit}
+use Rattle.row.proofs.Walk.{within, size, first, last, more, more-fit}
 
 -- ---- what the pass notes
 -- the ends before the kth stay,

@@ -50,7 +50,11 @@ returns c =
     let e = c .before .before .before .before .before .before .before .before .before .before .before .era-adds .ensures .0 in
     let m = c .before .before .before .before .before .before .before .before .before .wide .ensures in
     let d = c .before .before .before .before .before .before .before .before .wide2 .ensures in
-    λ i. record { length = 7; bytes = (c .before .before .before .before .before .before .figure .ensures ∙ (λ j. figure (c .before .before .before .before .before .before .before .wide3 .ensures j))) i ∷ (c .before .before .before .before .before .figure2 .ensures ∙ (λ j. figure ((t .year - e j) / 10))) i ∷ (c .before .before .before .before .figure3 .ensures ∙ (λ j. figure (t .year - e j))) i ∷ (c .before .before .before .figure4 .ensures ∙ (λ j. figure (m j / 10))) i ∷ (c .before .before .figure5 .ensures ∙ (λ j. figure (m j))) i ∷ (c .before .figure6 .ensures ∙ (λ j. figure (d j / 10))) i ∷ (c .figure7 .ensures ∙ (λ j. figure (d j))) i ∷ 0 ∷ [] }
+    λ i.
+    record {
+      length = 7;
+      bytes = (c .before .before .before .before .before .before .figure .ensures ∙ (λ j. figure (c .before .before .before .before .before .before .before .wide3 .ensures j))) i ∷ (c .before .before .before .before .before .figure2 .ensures ∙ (λ j. figure ((t .year - e j) / 10))) i ∷ (c .before .before .before .before .figure3 .ensures ∙ (λ j. figure (t .year - e j))) i ∷ (c .before .before .before .figure4 .ensures ∙ (λ j. figure (m j / 10))) i ∷ (c .before .before .figure5 .ensures ∙ (λ j. figure (m j))) i ∷ (c .before .figure6 .ensures ∙ (λ j. figure (d j / 10))) i ∷ (c .figure7 .ensures ∙ (λ j. figure (d j))) i ∷ 0 ∷ [];
+    }
 
 pub print-era-spec : {M : Type 1} → statement M
 print-era-spec =

@@ -42,7 +42,11 @@ returns : tie.Need-returns
 returns c =
     let m = c .before .before .before .before .before .before .before .before .before .before .before .before .wide .ensures in
     let d = c .before .before .before .before .before .before .before .before .before .before .before .wide2 .ensures in
-    λ i. record { length = 8; bytes = c .before .before .before .before .before .before .before .before .before .figure .ensures i ∷ c .before .before .before .before .before .before .before .figure2 .ensures i ∷ c .before .before .before .before .before .figure3 .ensures i ∷ c .before .before .before .before .figure4 .ensures i ∷ (c .before .before .before .figure5 .ensures ∙ (λ j. figure (m j / 10))) i ∷ (c .before .before .figure6 .ensures ∙ (λ j. figure (m j))) i ∷ (c .before .figure7 .ensures ∙ (λ j. figure (d j / 10))) i ∷ (c .figure8 .ensures ∙ (λ j. figure (d j))) i ∷ [] }
+    λ i.
+    record {
+      length = 8;
+      bytes = c .before .before .before .before .before .before .before .before .before .figure .ensures i ∷ c .before .before .before .before .before .before .before .figure2 .ensures i ∷ c .before .before .before .before .before .figure3 .ensures i ∷ c .before .before .before .before .figure4 .ensures i ∷ (c .before .before .before .figure5 .ensures ∙ (λ j. figure (m j / 10))) i ∷ (c .before .before .figure6 .ensures ∙ (λ j. figure (m j))) i ∷ (c .before .figure7 .ensures ∙ (λ j. figure (d j / 10))) i ∷ (c .figure8 .ensures ∙ (λ j. figure (d j))) i ∷ [];
+    }
 
 pub print-western-spec : {M : Type 1} → statement M
 print-western-spec =

@@ -23,7 +23,14 @@ number-requires-4 : tie.Need-number-requires-4
 number-requires-4 c κs = search needs
 
 returns : tie.Need-returns
-returns c = λ i. record { number = 101; count = 5; each = c .before .before .before .before .number .ensures i ∷ c .before .before .before .number2 .ensures i ∷ c .before .before .number3 .ensures i ∷ c .before .text-in .ensures i ∷ c .number4 .ensures i ∷ c .before .before .before .before .before .empty .ensures i ∷ c .before .before .before .before .before .empty .ensures i ∷ c .before .before .before .before .before .empty .ensures i ∷ c .before .before .before .before .before .empty .ensures i ∷ c .before .before .before .before .before .empty .ensures i ∷ [] }
+returns c =
+    let p1 = c .before .before .before .before .number .ensures in
+    let p2 = c .before .before .before .number2 .ensures in
+    let p3 = c .before .before .number3 .ensures in
+    let p4 = c .before .text-in .ensures in
+    let p5 = c .number4 .ensures in
+    let u = c .before .before .before .before .before .empty .ensures in
+    λ i. record { number = 101; count = 5; each = p1 i ∷ p2 i ∷ p3 i ∷ p4 i ∷ p5 i ∷ u i ∷ u i ∷ u i ∷ u i ∷ u i ∷ [] }
 
 pub parts-101-spec : {M : Type 1} → statement M
 parts-101-spec =

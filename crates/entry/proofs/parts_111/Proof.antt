@@ -26,7 +26,15 @@ optional-requires : tie.Need-optional-requires
 optional-requires c κs = search needs
 
 returns : tie.Need-returns
-returns c = λ i. record { number = 111; count = 6; each = c .before .before .before .before .before .number .ensures i ∷ c .before .before .before .before .number2 .ensures i ∷ c .before .before .before .number3 .ensures i ∷ c .before .before .usage-code .ensures i ∷ c .before .text-in .ensures i ∷ c .optional .ensures i ∷ c .before .before .before .before .before .before .empty .ensures i ∷ c .before .before .before .before .before .before .empty .ensures i ∷ c .before .before .before .before .before .before .empty .ensures i ∷ c .before .before .before .before .before .before .empty .ensures i ∷ [] }
+returns c =
+    let p1 = c .before .before .before .before .before .number .ensures in
+    let p2 = c .before .before .before .before .number2 .ensures in
+    let p3 = c .before .before .before .number3 .ensures in
+    let p4 = c .before .before .usage-code .ensures in
+    let p5 = c .before .text-in .ensures in
+    let p6 = c .optional .ensures in
+    let u = c .before .before .before .before .before .before .empty .ensures in
+    λ i. record { number = 111; count = 6; each = p1 i ∷ p2 i ∷ p3 i ∷ p4 i ∷ p5 i ∷ p6 i ∷ u i ∷ u i ∷ u i ∷ u i ∷ [] }
 
 pub parts-111-spec : {M : Type 1} → statement M
 parts-111-spec =

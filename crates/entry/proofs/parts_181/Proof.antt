@@ -29,7 +29,16 @@ text-in-requires-2 : tie.Need-text-in-requires-2
 text-in-requires-2 c κs = search needs
 
 returns : tie.Need-returns
-returns c = λ i. record { number = 181; count = 7; each = c .before .before .before .before .before .before .number .ensures i ∷ c .before .before .before .before .before .number2 .ensures i ∷ c .before .before .before .before .number3 .ensures i ∷ c .before .before .before .optional .ensures i ∷ c .before .before .text-in .ensures i ∷ c .before .supplement-code .ensures i ∷ c .text-in2 .ensures i ∷ c .before .before .before .before .before .before .before .empty .ensures i ∷ c .before .before .before .before .before .before .before .empty .ensures i ∷ c .before .before .before .before .before .before .before .empty .ensures i ∷ [] }
+returns c =
+    let p1 = c .before .before .before .before .before .before .number .ensures in
+    let p2 = c .before .before .before .before .before .number2 .ensures in
+    let p3 = c .before .before .before .before .number3 .ensures in
+    let p4 = c .before .before .before .optional .ensures in
+    let p5 = c .before .before .text-in .ensures in
+    let p6 = c .before .supplement-code .ensures in
+    let p7 = c .text-in2 .ensures in
+    let u = c .before .before .before .before .before .before .before .empty .ensures in
+    λ i. record { number = 181; count = 7; each = p1 i ∷ p2 i ∷ p3 i ∷ p4 i ∷ p5 i ∷ p6 i ∷ p7 i ∷ u i ∷ u i ∷ u i ∷ [] }
 
 pub parts-181-spec : {M : Type 1} → statement M
 parts-181-spec =

@@ -19,7 +19,11 @@ own-requires : tie.Need-own-requires
 own-requires c κs = search needs
 
 returns : tie.Need-returns
-returns c = λ i. record { number = 51; count = 2; each = c .before .before .number .ensures i ∷ (c .own .ensures ∙ (λ j. inCell (c .before .day .ensures j))) i ∷ c .before .before .before .empty .ensures i ∷ c .before .before .before .empty .ensures i ∷ c .before .before .before .empty .ensures i ∷ c .before .before .before .empty .ensures i ∷ c .before .before .before .empty .ensures i ∷ c .before .before .before .empty .ensures i ∷ c .before .before .before .empty .ensures i ∷ c .before .before .before .empty .ensures i ∷ [] }
+returns c =
+    let p1 = c .before .before .number .ensures in
+    let p2 = c .own .ensures ∙ (λ j. inCell (c .before .day .ensures j)) in
+    let u = c .before .before .before .empty .ensures in
+    λ i. record { number = 51; count = 2; each = p1 i ∷ p2 i ∷ u i ∷ u i ∷ u i ∷ u i ∷ u i ∷ u i ∷ u i ∷ u i ∷ [] }
 
 pub parts-51-spec : {M : Type 1} → statement M
 parts-51-spec =

@@ -1,6 +1,5 @@
 -- By whether a line is being read.
 -- Assumes nothing.
-use mathlib.Core.Path.{_∙_, sym}
 use borrow.Author.Needs.{needs}
 use borrow.Author.Tests.{eq-eqb, ne-eqb}
 use Rattle.line.specs.Code.Past.{past}

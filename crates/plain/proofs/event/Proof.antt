@@ -19,7 +19,15 @@ byte-at-requires-5 : tie.Need-byte-at-requires-5
 byte-at-requires-5 c κs = search needs
 
 returns : tie.Need-returns
-returns c = λ i. record { group = c .before .before .before .before .byte-at .ensures i; event = c .before .before .before .byte-at2 .ensures i; condition = c .before .before .byte-at3 .ensures i; interval = c .before .byte-at4 .ensures i; limit = c .byte-at5 .ensures i }
+returns c =
+    λ i.
+    record {
+      group = c .before .before .before .before .byte-at .ensures i;
+      event = c .before .before .before .byte-at2 .ensures i;
+      condition = c .before .before .byte-at3 .ensures i;
+      interval = c .before .byte-at4 .ensures i;
+      limit = c .byte-at5 .ensures i;
+    }
 
 pub event-spec : {M : Type 1} → statement M
 event-spec =

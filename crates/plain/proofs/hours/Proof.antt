@@ -28,7 +28,18 @@ byte-at-requires-8 : tie.Need-byte-at-requires-8
 byte-at-requires-8 c κs = search needs
 
 returns : tie.Need-returns
-returns c = λ i. record { h1 = c .before .before .before .before .before .before .before .byte-at .ensures i; h2 = c .before .before .before .before .before .before .byte-at2 .ensures i; h3 = c .before .before .before .before .before .byte-at3 .ensures i; h4 = c .before .before .before .before .byte-at4 .ensures i; h5 = c .before .before .before .byte-at5 .ensures i; h6 = c .before .before .byte-at6 .ensures i; h7 = c .before .byte-at7 .ensures i; h8 = c .byte-at8 .ensures i }
+returns c =
+    λ i.
+    record {
+      h1 = c .before .before .before .before .before .before .before .byte-at .ensures i;
+      h2 = c .before .before .before .before .before .before .byte-at2 .ensures i;
+      h3 = c .before .before .before .before .before .byte-at3 .ensures i;
+      h4 = c .before .before .before .before .byte-at4 .ensures i;
+      h5 = c .before .before .before .byte-at5 .ensures i;
+      h6 = c .before .before .byte-at6 .ensures i;
+      h7 = c .before .byte-at7 .ensures i;
+      h8 = c .byte-at8 .ensures i;
+    }
 
 pub hours-spec : {M : Type 1} → statement M
 hours-spec =

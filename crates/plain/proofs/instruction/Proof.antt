@@ -31,7 +31,19 @@ byte-at-requires-6 : tie.Need-byte-at-requires-6
 byte-at-requires-6 c κs = search needs
 
 returns : tie.Need-returns
-returns c = λ i. record { class = c .before .before .before .before .before .before .before .before .byte-at .ensures i; detail = c .before .before .before .before .before .before .before .byte-at2 .ensures i; kind = c .before .before .before .before .before .before .byte-at3 .ensures i; times = c .before .before .before .before .before .byte-at4 .ensures i; occasions = c .before .before .before .before .occasions .ensures i; start = c .before .before .before .byte-at5 .ensures i; hours = c .before .before .hours .ensures i; event = c .before .event .ensures i; about = c .byte-at6 .ensures i }
+returns c =
+    λ i.
+    record {
+      class = c .before .before .before .before .before .before .before .before .byte-at .ensures i;
+      detail = c .before .before .before .before .before .before .before .byte-at2 .ensures i;
+      kind = c .before .before .before .before .before .before .byte-at3 .ensures i;
+      times = c .before .before .before .before .before .byte-at4 .ensures i;
+      occasions = c .before .before .before .before .occasions .ensures i;
+      start = c .before .before .before .byte-at5 .ensures i;
+      hours = c .before .before .hours .ensures i;
+      event = c .before .event .ensures i;
+      about = c .byte-at6 .ensures i;
+    }
 
 pub instruction-spec : {M : Type 1} → statement M
 instruction-spec =

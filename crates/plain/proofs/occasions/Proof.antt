@@ -22,7 +22,16 @@ byte-at-requires-6 : tie.Need-byte-at-requires-6
 byte-at-requires-6 c κs = search needs
 
 returns : tie.Need-returns
-returns c = λ i. record { bedtime = c .before .before .before .before .before .byte-at .ensures i; supper = c .before .before .before .before .byte-at2 .ensures i; lunch = c .before .before .before .byte-at3 .ensures i; breakfast = c .before .before .byte-at4 .ensures i; waking = c .before .byte-at5 .ensures i; hour = c .byte-at6 .ensures i }
+returns c =
+    λ i.
+    record {
+      bedtime = c .before .before .before .before .before .byte-at .ensures i;
+      supper = c .before .before .before .before .byte-at2 .ensures i;
+      lunch = c .before .before .before .byte-at3 .ensures i;
+      breakfast = c .before .before .byte-at4 .ensures i;
+      waking = c .before .byte-at5 .ensures i;
+      hour = c .byte-at6 .ensures i;
+    }
 
 pub occasions-spec : {M : Type 1} → statement M
 occasions-spec =

@@ -16,7 +16,14 @@ half-at-requires-3 : tie.Need-half-at-requires-3
 half-at-requires-3 c κs = search needs
 
 returns : tie.Need-returns
-returns c = λ i. record { rp = record { 0 = c .before .before .before .half-at .ensures i }; form = c .before .before .half-at2 .ensures i; name = c .before .place-at .ensures i; quantity = c .half-at3 .ensures i }
+returns c =
+    λ i.
+    record {
+      rp = record { 0 = c .before .before .before .half-at .ensures i };
+      form = c .before .before .half-at2 .ensures i;
+      name = c .before .place-at .ensures i;
+      quantity = c .half-at3 .ensures i;
+    }
 
 pub record-101-spec : {M : Type 1} → statement M
 record-101-spec =

@@ -24,7 +24,15 @@ half-at-requires-3 : tie.Need-half-at-requires-3
 half-at-requires-3 c κs = search needs
 
 returns : tie.Need-returns
-returns c = λ i. record { rp = record { 0 = c .before .before .before .before .before .half-at .ensures i }; kind = c .before .before .before .before .half-at2 .ensures i; code = (c .before .before .usage-code-of .ensures ∙ ap usageCodeOf (c .before .before .before .from .ensures)) i; name = c .before .place-at .ensures i; times = c .half-at3 .ensures i }
+returns c =
+    λ i.
+    record {
+      rp = record { 0 = c .before .before .before .before .before .half-at .ensures i };
+      kind = c .before .before .before .before .half-at2 .ensures i;
+      code = (c .before .before .usage-code-of .ensures ∙ ap usageCodeOf (c .before .before .before .from .ensures)) i;
+      name = c .before .place-at .ensures i;
+      times = c .half-at3 .ensures i;
+    }
 
 pub record-111-spec : {M : Type 1} → statement M
 record-111-spec =

@@ -27,7 +27,16 @@ place-at-requires-2 : tie.Need-place-at-requires-2
 place-at-requires-2 c κs = search needs
 
 returns : tie.Need-returns
-returns c = λ i. record { rp = record { 0 = c .before .before .before .before .before .before .half-at .ensures i }; serial = record { 0 = c .before .before .before .before .before .half-at2 .ensures i }; kind = c .before .before .before .before .half-at3 .ensures i; text = c .before .before .before .place-at .ensures i; code = (c .before .supplement-code-of .ensures ∙ ap supplementCodeOf (c .before .before .from .ensures)) i; site = c .place-at2 .ensures i }
+returns c =
+    λ i.
+    record {
+      rp = record { 0 = c .before .before .before .before .before .before .half-at .ensures i };
+      serial = record { 0 = c .before .before .before .before .before .half-at2 .ensures i };
+      kind = c .before .before .before .before .half-at3 .ensures i;
+      text = c .before .before .before .place-at .ensures i;
+      code = (c .before .supplement-code-of .ensures ∙ ap supplementCodeOf (c .before .before .from .ensures)) i;
+      site = c .place-at2 .ensures i;
+    }
 
 pub record-181-spec : {M : Type 1} → statement M
 record-181-spec =

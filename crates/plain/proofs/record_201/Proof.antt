@@ -31,7 +31,19 @@ place-at-requires-3 : tie.Need-place-at-requires-3
 place-at-requires-3 c κs = search needs
 
 returns : tie.Need-returns
-returns c = λ i. record { rp = record { 0 = c .before .before .before .before .before .before .before .before .half-at .ensures i }; serial = record { 0 = c .before .before .before .before .before .before .before .half-at2 .ensures i }; kind = c .before .before .before .before .before .before .half-at3 .ensures i; coding = c .before .before .before .before .before .half-at4 .ensures i; code = c .before .before .before .before .place-at .ensures i; name = c .before .before .before .place-at2 .ensures i; amount = c .before .before .at .ensures i; flag = c .before .half-at5 .ensures i; unit = c .place-at3 .ensures i }
+returns c =
+    λ i.
+    record {
+      rp = record { 0 = c .before .before .before .before .before .before .before .before .half-at .ensures i };
+      serial = record { 0 = c .before .before .before .before .before .before .before .half-at2 .ensures i };
+      kind = c .before .before .before .before .before .before .half-at3 .ensures i;
+      coding = c .before .before .before .before .before .half-at4 .ensures i;
+      code = c .before .before .before .before .place-at .ensures i;
+      name = c .before .before .before .place-at2 .ensures i;
+      amount = c .before .before .at .ensures i;
+      flag = c .before .half-at5 .ensures i;
+      unit = c .place-at3 .ensures i;
+    }
 
 pub record-201-spec : {M : Type 1} → statement M
 record-201-spec =

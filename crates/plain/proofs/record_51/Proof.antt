@@ -16,7 +16,11 @@ byte-at-requires-3 : tie.Need-byte-at-requires-3
 byte-at-requires-3 c κs = search needs
 
 returns : tie.Need-returns
-returns c = λ i. record { date = record { era = c .before .before .before .byte-at .ensures i; year = c .before .before .half-at .ensures i; month = c .before .byte-at2 .ensures i; day = c .byte-at3 .ensures i } }
+returns c =
+    λ i.
+    record {
+      date = record { era = c .before .before .before .byte-at .ensures i; year = c .before .before .half-at .ensures i; month = c .before .byte-at2 .ensures i; day = c .byte-at3 .ensures i };
+    }
 
 pub record-51-spec : {M : Type 1} → statement M
 record-51-spec =

@@ -22,7 +22,16 @@ schedule-of-requires : tie.Need-schedule-of-requires
 schedule-of-requires c κs = search needs
 
 returns : tie.Need-returns
-returns c = λ i. record { last = c .before .before .before .before .before .half-at .ensures i; month = c .before .before .before .before .byte-at .ensures i; rp = record { 0 = c .before .before .before .half-at2 .ensures i }; drug = record { 0 = c .before .before .half-at3 .ensures i }; supplement = record { 0 = c .before .half-at4 .ensures i }; schedule = c .schedule-of .ensures i }
+returns c =
+    λ i.
+    record {
+      last = c .before .before .before .before .before .half-at .ensures i;
+      month = c .before .before .before .before .byte-at .ensures i;
+      rp = record { 0 = c .before .before .before .half-at2 .ensures i };
+      drug = record { 0 = c .before .before .half-at3 .ensures i };
+      supplement = record { 0 = c .before .half-at4 .ensures i };
+      schedule = c .schedule-of .ensures i;
+    }
 
 pub sofar-spec : {M : Type 1} → statement M
 sofar-spec =

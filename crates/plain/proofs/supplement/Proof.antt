@@ -42,7 +42,21 @@ byte-at-requires-8 : tie.Need-byte-at-requires-8
 byte-at-requires-8 c κs = search needs
 
 returns : tie.Need-returns
-returns c = λ i. record { letter = c .before .before .before .before .before .before .before .before .before .before .before .byte-at .ensures i; on = c .before .before .before .before .before .before .before .before .before .before .byte-at2 .ensures i; off = c .before .before .before .before .before .before .before .before .before .byte-at3 .ensures i; week = c .before .before .before .before .before .before .before .before .week .ensures i; month = c .before .before .before .before .before .before .before .byte-at4 .ensures i; days = c .before .before .before .before .before .before .days .ensures i; period = c .before .before .before .before .before .byte-at5 .ensures i; count = c .before .before .before .before .byte-at6 .ensures i; order = c .before .before .before .byte-at7 .ensures i; figures = (c .before .word .ensures ∙ ap word (c .before .before .at .ensures)) i; places = c .byte-at8 .ensures i }
+returns c =
+    λ i.
+    record {
+      letter = c .before .before .before .before .before .before .before .before .before .before .before .byte-at .ensures i;
+      on = c .before .before .before .before .before .before .before .before .before .before .byte-at2 .ensures i;
+      off = c .before .before .before .before .before .before .before .before .before .byte-at3 .ensures i;
+      week = c .before .before .before .before .before .before .before .before .week .ensures i;
+      month = c .before .before .before .before .before .before .before .byte-at4 .ensures i;
+      days = c .before .before .before .before .before .before .days .ensures i;
+      period = c .before .before .before .before .before .byte-at5 .ensures i;
+      count = c .before .before .before .before .byte-at6 .ensures i;
+      order = c .before .before .before .byte-at7 .ensures i;
+      figures = (c .before .word .ensures ∙ ap word (c .before .before .at .ensures)) i;
+      places = c .byte-at8 .ensures i;
+    }
 
 pub supplement-spec : {M : Type 1} → statement M
 supplement-spec =

@@ -73,7 +73,29 @@ wide-requires-2 c κs = search needs
 returns : tie.Need-returns
 returns c =
     let x = c .before .before .before .before .before .before .before .before .before .before .before .before .before .before .before .before .before .before .before .before .before .before .before .before .args .x in
-    λ i. x .letter ∷ x .on ∷ x .off ∷ x .week .sunday ∷ x .week .monday ∷ x .week .tuesday ∷ x .week .wednesday ∷ x .week .thursday ∷ x .week .friday ∷ x .week .saturday ∷ x .month ∷ x .days .d1 ∷ x .days .d2 ∷ x .days .d3 ∷ x .days .d4 ∷ x .days .d5 ∷ x .days .d6 ∷ x .period ∷ x .count ∷ c .before .before .wide .ensures i ∷ c .before .wide-word .ensures i ∷ c .wide2 .ensures i ∷ []
+    λ i.
+    x .letter ∷
+    x .on ∷
+    x .off ∷
+    x .week .sunday ∷
+    x .week .monday ∷
+    x .week .tuesday ∷
+    x .week .wednesday ∷
+    x .week .thursday ∷
+    x .week .friday ∷
+    x .week .saturday ∷
+    x .month ∷
+    x .days .d1 ∷
+    x .days .d2 ∷
+    x .days .d3 ∷
+    x .days .d4 ∷
+    x .days .d5 ∷
+    x .days .d6 ∷
+    x .period ∷
+    x .count ∷
+    c .before .before .wide .ensures i ∷
+    c .before .wide-word .ensures i ∷
+    c .wide2 .ensures i ∷ []
 
 pub supplement-numbers-spec : {M : Type 1} → statement M
 supplement-numbers-spec =

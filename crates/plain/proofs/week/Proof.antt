@@ -25,7 +25,17 @@ byte-at-requires-7 : tie.Need-byte-at-requires-7
 byte-at-requires-7 c κs = search needs
 
 returns : tie.Need-returns
-returns c = λ i. record { sunday = c .before .before .before .before .before .before .byte-at .ensures i; monday = c .before .before .before .before .before .byte-at2 .ensures i; tuesday = c .before .before .before .before .byte-at3 .ensures i; wednesday = c .before .before .before .byte-at4 .ensures i; thursday = c .before .before .byte-at5 .ensures i; friday = c .before .byte-at6 .ensures i; saturday = c .byte-at7 .ensures i }
+returns c =
+    λ i.
+    record {
+      sunday = c .before .before .before .before .before .before .byte-at .ensures i;
+      monday = c .before .before .before .before .before .byte-at2 .ensures i;
+      tuesday = c .before .before .before .before .byte-at3 .ensures i;
+      wednesday = c .before .before .before .byte-at4 .ensures i;
+      thursday = c .before .before .byte-at5 .ensures i;
+      friday = c .before .byte-at6 .ensures i;
+      saturday = c .byte-at7 .ensures i;
+    }
 
 pub week-spec : {M : Type 1} → statement M
 week-spec =

@@ -8,8 +8,7 @@ use borrow.Author.Needs.{needs}
 use lib.ListN.{length}
 use Rattle.supplement.specs.declared.Supplement.{Supplement}
 use Rattle.schedule.specs.Code.Kept.{mayJoin}
-use Rattle.field.specs.declared.Rule.{Rule}
-use Rattle.row.specs.Table.{rulesOf, tableOf}
+use Rattle.row.specs.Table.{rulesOf}
 use Rattle.row.specs.Row.{fieldsAt, blanks}
 use Rattle.row.specs.Code.Walk.{widthOf, rowFrom}
 use Rattle.row.specs.declared.Rules.{Rules}

@@ -23,7 +23,16 @@ digit-at-requires-6 : tie.Need-digit-at-requires-6
 digit-at-requires-6 c κs = search needs
 
 returns : tie.Need-returns
-returns c = λ i. record { d1 = c .before .before .before .before .before .digit-at .ensures i; d2 = c .before .before .before .before .digit-at2 .ensures i; d3 = c .before .before .before .digit-at3 .ensures i; d4 = c .before .before .digit-at4 .ensures i; d5 = c .before .digit-at5 .ensures i; d6 = c .digit-at6 .ensures i }
+returns c =
+    λ i.
+    record {
+      d1 = c .before .before .before .before .before .digit-at .ensures i;
+      d2 = c .before .before .before .before .digit-at2 .ensures i;
+      d3 = c .before .before .before .digit-at3 .ensures i;
+      d4 = c .before .before .digit-at4 .ensures i;
+      d5 = c .before .digit-at5 .ensures i;
+      d6 = c .digit-at6 .ensures i;
+    }
 
 pub days-of-spec : {M : Type 1} → statement M
 days-of-spec =

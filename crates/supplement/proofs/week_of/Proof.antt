@@ -26,7 +26,17 @@ digit-at-requires-7 : tie.Need-digit-at-requires-7
 digit-at-requires-7 c κs = search needs
 
 returns : tie.Need-returns
-returns c = λ i. record { sunday = c .before .before .before .before .before .before .digit-at .ensures i; monday = c .before .before .before .before .before .digit-at2 .ensures i; tuesday = c .before .before .before .before .digit-at3 .ensures i; wednesday = c .before .before .before .digit-at4 .ensures i; thursday = c .before .before .digit-at5 .ensures i; friday = c .before .digit-at6 .ensures i; saturday = c .digit-at7 .ensures i }
+returns c =
+    λ i.
+    record {
+      sunday = c .before .before .before .before .before .before .digit-at .ensures i;
+      monday = c .before .before .before .before .before .digit-at2 .ensures i;
+      tuesday = c .before .before .before .before .digit-at3 .ensures i;
+      wednesday = c .before .before .before .digit-at4 .ensures i;
+      thursday = c .before .before .digit-at5 .ensures i;
+      friday = c .before .digit-at6 .ensures i;
+      saturday = c .digit-at7 .ensures i;
+    }
 
 pub week-of-spec : {M : Type 1} → statement M
 week-of-spec =

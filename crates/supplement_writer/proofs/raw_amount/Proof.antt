@@ -38,7 +38,15 @@ returns : tie.Need-returns
 returns c =
     let x = c .before .before .before .before .before .before .before .before .before .args .x in
     let w = c .before .before .before .before .before .before .before .whole .ensures ∙ (λ j. whole (c .before .before .before .before .before .before .before .before .width .ensures j) (x .places)) in
-    λ i. x .letter ∷ c .before .before .before .before .before .before .letter .ensures i ∷ (c .before .before .before .before .before .column .ensures ∙ (λ j. column (x .figures) (w j) (x .places) 0)) i ∷ (c .before .before .before .before .column2 .ensures ∙ (λ j. column (x .figures) (w j) (x .places) 1)) i ∷ (c .before .before .before .column3 .ensures ∙ (λ j. column (x .figures) (w j) (x .places) 2)) i ∷ (c .before .before .column4 .ensures ∙ (λ j. column (x .figures) (w j) (x .places) 3)) i ∷ (c .before .column5 .ensures ∙ (λ j. column (x .figures) (w j) (x .places) 4)) i ∷ (c .column6 .ensures ∙ (λ j. column (x .figures) (w j) (x .places) 5)) i ∷ []
+    λ i.
+    x .letter ∷
+    c .before .before .before .before .before .before .letter .ensures i ∷
+    (c .before .before .before .before .before .column .ensures ∙ (λ j. column (x .figures) (w j) (x .places) 0)) i ∷
+    (c .before .before .before .before .column2 .ensures ∙ (λ j. column (x .figures) (w j) (x .places) 1)) i ∷
+    (c .before .before .before .column3 .ensures ∙ (λ j. column (x .figures) (w j) (x .places) 2)) i ∷
+    (c .before .before .column4 .ensures ∙ (λ j. column (x .figures) (w j) (x .places) 3)) i ∷
+    (c .before .column5 .ensures ∙ (λ j. column (x .figures) (w j) (x .places) 4)) i ∷
+    (c .column6 .ensures ∙ (λ j. column (x .figures) (w j) (x .places) 5)) i ∷ []
 
 pub raw-amount-spec : {M : Type 1} → statement M
 raw-amount-spec =

@@ -27,7 +27,16 @@ letter-requires-7 : tie.Need-letter-requires-7
 letter-requires-7 c κs = search needs
 
 returns : tie.Need-returns
-returns c = λ i. c .before .before .before .before .before .before .before .args .letter ∷ c .before .before .before .before .before .before .letter .ensures i ∷ c .before .before .before .before .before .letter2 .ensures i ∷ c .before .before .before .before .letter3 .ensures i ∷ c .before .before .before .letter4 .ensures i ∷ c .before .before .letter5 .ensures i ∷ c .before .letter6 .ensures i ∷ c .letter7 .ensures i ∷ []
+returns c =
+    λ i.
+    c .before .before .before .before .before .before .before .args .letter ∷
+    c .before .before .before .before .before .before .letter .ensures i ∷
+    c .before .before .before .before .before .letter2 .ensures i ∷
+    c .before .before .before .before .letter3 .ensures i ∷
+    c .before .before .before .letter4 .ensures i ∷
+    c .before .before .letter5 .ensures i ∷
+    c .before .letter6 .ensures i ∷
+    c .letter7 .ensures i ∷ []
 
 pub raw-week-spec : {M : Type 1} → statement M
 raw-week-spec =

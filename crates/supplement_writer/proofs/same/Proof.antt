@@ -4,11 +4,6 @@ use mathlib.Core.Bool.{_&&_}
 use borrow.Author.Needs.{needs}
 use Rattle.supplement_writer.proofs.same.Statement.{statement}
 use Rattle.supplement_writer.proofs.same.Tie as tie
-use Rattle.supplement_writer.proofs.same.Reads as reads
-use Rattle.supplement_writer.proofs.same.Lts as lts
-use Rattle.supplement_writer.proofs.same_days.Reads as same-days-reads
-use Rattle.supplement_writer.proofs.same_head.Reads as same-head-reads
-use Rattle.supplement_writer.proofs.same_week.Reads as same-week-reads
 
 same-head-requires : tie.Need-same-head-requires
 same-head-requires c κs = search needs

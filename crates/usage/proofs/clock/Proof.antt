@@ -52,7 +52,18 @@ hour-requires-8 : tie.Need-hour-requires-8
 hour-requires-8 c κs = search needs
 
 returns : tie.Need-returns
-returns c = λ i. record { h1 = c .before .before .before .before .before .before .before .before .before .before .before .before .before .before .hour .ensures i; h2 = c .before .before .before .before .before .before .before .before .before .before .before .before .hour2 .ensures i; h3 = c .before .before .before .before .before .before .before .before .before .before .hour3 .ensures i; h4 = c .before .before .before .before .before .before .before .before .hour4 .ensures i; h5 = c .before .before .before .before .before .before .hour5 .ensures i; h6 = c .before .before .before .before .hour6 .ensures i; h7 = c .before .before .hour7 .ensures i; h8 = c .hour8 .ensures i }
+returns c =
+    λ i.
+    record {
+      h1 = c .before .before .before .before .before .before .before .before .before .before .before .before .before .before .hour .ensures i;
+      h2 = c .before .before .before .before .before .before .before .before .before .before .before .before .hour2 .ensures i;
+      h3 = c .before .before .before .before .before .before .before .before .before .before .hour3 .ensures i;
+      h4 = c .before .before .before .before .before .before .before .before .hour4 .ensures i;
+      h5 = c .before .before .before .before .before .before .hour5 .ensures i;
+      h6 = c .before .before .before .before .hour6 .ensures i;
+      h7 = c .before .before .hour7 .ensures i;
+      h8 = c .hour8 .ensures i;
+    }
 
 pub clock-spec : {M : Type 1} → statement M
 clock-spec =

@@ -34,7 +34,15 @@ digit-requires-5 : tie.Need-digit-requires-5
 digit-requires-5 c κs = search needs
 
 returns : tie.Need-returns
-returns c = λ i. record { group = c .before .before .before .before .before .before .before .before .digit .ensures i; event = c .before .before .before .before .before .before .digit2 .ensures i; condition = c .before .before .before .before .digit3 .ensures i; interval = c .before .before .digit4 .ensures i; limit = c .digit5 .ensures i }
+returns c =
+    λ i.
+    record {
+      group = c .before .before .before .before .before .before .before .before .digit .ensures i;
+      event = c .before .before .before .before .before .before .digit2 .ensures i;
+      condition = c .before .before .before .before .digit3 .ensures i;
+      interval = c .before .before .digit4 .ensures i;
+      limit = c .digit5 .ensures i;
+    }
 
 pub event-of-spec : {M : Type 1} → statement M
 event-of-spec =

@@ -40,7 +40,16 @@ hour-requires : tie.Need-hour-requires
 hour-requires c κs = search needs
 
 returns : tie.Need-returns
-returns c = λ i. record { bedtime = c .before .before .before .before .before .before .before .before .before .before .digit .ensures i; supper = c .before .before .before .before .before .before .before .before .digit2 .ensures i; lunch = c .before .before .before .before .before .before .digit3 .ensures i; breakfast = c .before .before .before .before .digit4 .ensures i; waking = c .before .before .used .ensures .0 i; hour = c .hour .ensures i }
+returns c =
+    λ i.
+    record {
+      bedtime = c .before .before .before .before .before .before .before .before .before .before .digit .ensures i;
+      supper = c .before .before .before .before .before .before .before .before .digit2 .ensures i;
+      lunch = c .before .before .before .before .before .before .digit3 .ensures i;
+      breakfast = c .before .before .before .before .digit4 .ensures i;
+      waking = c .before .before .used .ensures .0 i;
+      hour = c .hour .ensures i;
+    }
 
 pub meals-spec : {M : Type 1} → statement M
 meals-spec =

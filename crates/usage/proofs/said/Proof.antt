@@ -45,7 +45,19 @@ said-about-requires c κs = search needs
 
 returns : tie.Need-returns
 unfolding says
-returns c = λ i. record { class = c .before .before .before .before .before .before .before .before .before .before .before .digit .ensures i; detail = c .before .before .before .before .before .before .before .before .before .digit2 .ensures i; kind = c .before .before .before .before .before .before .before .digit3 .ensures i; times = c .before .before .before .before .before .digit4 .ensures i; occasions = c .before .before .before .before .said-occasions .ensures i; start = c .before .before .before .said-start .ensures i; hours = c .before .before .said-hours .ensures i; event = c .before .said-event .ensures i; about = c .said-about .ensures i }
+returns c =
+    λ i.
+    record {
+      class = c .before .before .before .before .before .before .before .before .before .before .before .digit .ensures i;
+      detail = c .before .before .before .before .before .before .before .before .before .digit2 .ensures i;
+      kind = c .before .before .before .before .before .before .before .digit3 .ensures i;
+      times = c .before .before .before .before .before .digit4 .ensures i;
+      occasions = c .before .before .before .before .said-occasions .ensures i;
+      start = c .before .before .before .said-start .ensures i;
+      hours = c .before .before .said-hours .ensures i;
+      event = c .before .said-event .ensures i;
+      about = c .said-about .ensures i;
+    }
 
 pub said-spec : {M : Type 1} → statement M
 said-spec =

@@ -20,7 +20,20 @@ hour-letter-requires : tie.Need-hour-letter-requires
 hour-letter-requires c κs = search needs
 
 returns : tie.Need-returns
-returns c = λ i. c .before .before .before .before .letter .ensures i ∷ c .before .before .before .letter2 .ensures i ∷ c .before .before .before .before .before .args .lunch ∷ c .before .before .letter3 .ensures i ∷ c .before .mark .ensures i ∷ c .hour-letter .ensures i ∷ 48 ∷ 48 ∷ 48 ∷ 48 ∷ 48 ∷ 48 ∷ []
+returns c =
+    λ i.
+    c .before .before .before .before .letter .ensures i ∷
+    c .before .before .before .letter2 .ensures i ∷
+    c .before .before .before .before .before .args .lunch ∷
+    c .before .before .letter3 .ensures i ∷
+    c .before .mark .ensures i ∷
+    c .hour-letter .ensures i ∷
+    48 ∷
+    48 ∷
+    48 ∷
+    48 ∷
+    48 ∷
+    48 ∷ []
 
 pub day-tail-spec : {M : Type 1} → statement M
 day-tail-spec =
