@@ -13,7 +13,7 @@ use lib.Seq.{slice, getD-set-same, getD-set-other}
 use Rattle.cells.proofs.Split.{split}
 use Rattle.cells.proofs.Alike.{and-left, and-right}
 use Rattle.line.specs.Fields.{fieldEnd}
-use Rattle.row.specs.Table.{nth, kindField, codeField}
+use Rattle.row.specs.Table.{nth, kindField, codeField, rulesFrom}
 use Rattle.row.specs.Row.{fieldsAt, lineEnds}
 use Rattle.row.specs.Code.Walk.{widthOf, cutFrom, marks}
 use Rattle.row.specs.declared.Cut.{Cut}
@@ -176,7 +176,7 @@ width-by : (n m : ℕ) → eqb n m ≡ true → Width m → Width n
 width-by n m e w = subst Width (sym (eqb-true n m e)) w
 
 pub width-of : (n : ℕ) → Width n
-unfolding widthOf
+unfolding widthOf rulesFrom
 width-of n =
     split (eqb n 51) (λ e. width-by n 51 e (record { kind-from = omega arith; kind-to = omega arith; code-from = omega arith; code-to = omega arith; most = omega arith }))
     (λ a.

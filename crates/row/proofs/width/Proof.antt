@@ -1,28 +1,29 @@
 -- By the record's number.
 use borrow.Author.Tests.{eq-eqb, ne-eqb}
+use Rattle.row.specs.Table.{rulesFrom}
 use Rattle.row.specs.Code.Walk.{widthOf}
 use Rattle.row.proofs.width.Statement.{statement}
 use Rattle.row.proofs.width.Tie as tie
 
 returns : tie.Need-returns
-unfolding widthOf
+unfolding widthOf rulesFrom
 returns c = rw (eq-eqb _ _ (c .if1 .taken))
 
 returns-2 : tie.Need-returns-2
-unfolding widthOf
+unfolding widthOf rulesFrom
 returns-2 c = rw (ne-eqb _ _ (c .before .if1 .left), eq-eqb _ _ (c .if2 .taken))
 
 returns-3 : tie.Need-returns-3
-unfolding widthOf
+unfolding widthOf rulesFrom
 returns-3 c = rw (ne-eqb _ _ (c .before .before .if1 .left), ne-eqb _ _ (c .before .if2 .left), eq-eqb _ _ (c .if3 .taken))
 
 returns-4 : tie.Need-returns-4
-unfolding widthOf
+unfolding widthOf rulesFrom
 returns-4 c =
     rw (ne-eqb _ _ (c .before .before .before .if1 .left), ne-eqb _ _ (c .before .before .if2 .left), ne-eqb _ _ (c .before .if3 .left), eq-eqb _ _ (c .if4 .taken))
 
 returns-5 : tie.Need-returns-5
-unfolding widthOf
+unfolding widthOf rulesFrom
 returns-5 c =
     rw (ne-eqb _ _ (c .before .before .before .if1 .left), ne-eqb _ _ (c .before .before .if2 .left), ne-eqb _ _ (c .before .if3 .left), ne-eqb _ _ (c .if4 .left))
 

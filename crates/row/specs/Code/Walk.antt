@@ -10,7 +10,7 @@ use Rattle.field.specs.Field.{free, required, forbidden, readField}
 use Rattle.field.specs.declared.Rule.{Rule}
 use Rattle.field.specs.declared.Sofar.{Sofar}
 use Rattle.field.specs.declared.Field.{Field}
-use Rattle.row.specs.Table.{noRule, keptRule}
+use Rattle.row.specs.Table.{noRule, keptRule, rulesFrom}
 use Rattle.row.specs.Row.{blanks, refusedAt}
 use Rattle.row.specs.declared.Value.{Value}
 use Rattle.row.specs.declared.Row.{Row}
@@ -47,9 +47,9 @@ keptFrom joins c i from (f ∷ fs) =
     cond (eqb (readField joins c keptRule f .number) 0) (keptFrom joins c (i + 1) (from + length f + 1) fs)
     (refusedAt i (readField joins c keptRule f))
 
--- How many fields a record of the table has.
+-- How many fields a record of the table has, whatever its kind and its drug code.
 unfoldable pub widthOf : ℕ → ℕ
-widthOf n = cond (eqb n 51) 1 (cond (eqb n 101) 4 (cond (eqb n 111) 5 (cond (eqb n 181) 6 9)))
+widthOf n = length (rulesFrom n [] [])
 
 -- Where the fields of a line end, from the one with k before it on, which begins at `at`: how many they are, and the first nine ends.
 unfoldable pub cutFrom : ℕ → ℕ → List (List ℕ) → List ℕ → Cut
