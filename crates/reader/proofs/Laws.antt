@@ -1,7 +1,7 @@
 -- The reader's theorems, over the rules alone: what the calls tell from opening on, and what a program that reads to the end needs.
 -- Assumes nothing.
-use Prim.Native.Nat.{ℕ, zero, suc, _+_, _<_}
-use mathlib.Core.Path.{_≡_, refl, _∙_, sym, ap}
+use Prim.Native.Nat.{ℕ, zero, suc, _+_, _-_, _<_}
+use mathlib.Core.Path.{_≡_, refl, _∙_, sym, ap, subst}
 use mathlib.Core.List.{List, map}
 use native.Mathlib.Nat.{add-zero}
 use native.Mathlib.Omega.{arith}
@@ -12,13 +12,18 @@ use Rattle.cells.proofs.Split.{split}
 use Rattle.order.specs.Order.{Begins, Sheet}
 use Rattle.record.specs.declared.Record.{Record}
 use Rattle.record.specs.declared.Refusal.{Refusal}
+use Rattle.record.specs.declared.Answer.{Answer}
+use Rattle.record.specs.declared.Answer.the-variants.{Took, Refused as Stops}
+use Rattle.record.specs.Line.{passes}
 use Rattle.reader.specs.Open.{fileFault}
 use Rattle.reader.specs.File.{File, Ending, whole, stopped, readFile, counted, checkFile, numberOf}
-use Rattle.reader.specs.Reader.{openFile, nextRecord, call, endingOf, told}
+use Rattle.reader.specs.Reader.{on, openFile, nextRecord, call, endingOf, told}
 use Rattle.reader.specs.declared.State.{State}
 use Rattle.reader.specs.declared.Handed.{Handed}
 use Rattle.reader.specs.declared.Handed.the-variants.{Record as Hands, Refused as Refuses, End}
 use Rattle.reader.specs.declared.Step.{Step}
+use Rattle.reader.specs.declared.Gone.the-variants.{On, Refused, End as AtEnd}
+use Rattle.reader.specs.Code.Gone.{gone, goneOf, goneBy}
 use Rattle.reader.specs.declared.Checked.the-variants.{Records, Refused as Not}
 use Rattle.reader.proofs.Order.{stand}
 use Rattle.reader.proofs.Along.{by-call, rests, Tells, by-rest, from-opening}
@@ -119,9 +124,30 @@ no-record : (e : Ending) (r : Record) → endingOf e ≡ Hands r → ⊥
 no-record whole r h = let z : _≡_ {A = ℕ} 0 1 = cc in omega arith
 no-record (stopped f) r h = let z : _≡_ {A = ℕ} 0 1 = cc in omega arith
 
+-- A line that is passed is a call without its record,
+pub gone-by : (t : State) (a : Answer) (next : ℕ) → goneBy (passes (t .sofar) a next) ≡ goneOf (on t a next)
+gone-by t (Took r) next = refl
+gone-by t (Stops f) next = refl
+
+-- and what it says of the call.
+on-by : {P : Type 0} (h : Handed) (t u : State) → gone h t ≡ On u → ((r : Record) → h ≡ Hands r → t ≡ u → P) → P
+on-by (Hands r) t u e k = k r refl (let z : t ≡ u = cc in z)
+on-by (Refuses f) t u e k = absurd (let z : _≡_ {A = ℕ} 0 1 = cc in omega arith)
+on-by End t u e k = absurd (let z : _≡_ {A = ℕ} 0 1 = cc in omega arith)
+
+refused-by : (h : Handed) (t : State) (f : Refusal) → gone h t ≡ Refused f → h ≡ Refuses f
+refused-by (Hands r) t f e = absurd (let z : _≡_ {A = ℕ} 0 1 = cc in omega arith)
+refused-by (Refuses g) t f e = let z : g ≡ f = cc in ap Refuses z
+refused-by End t f e = absurd (let z : _≡_ {A = ℕ} 0 1 = cc in omega arith)
+
+end-by : (h : Handed) (t : State) → gone h t ≡ AtEnd → h ≡ End
+end-by (Hands r) t e = absurd (let z : _≡_ {A = ℕ} 0 1 = cc in omega arith)
+end-by (Refuses g) t e = absurd (let z : _≡_ {A = ℕ} 0 1 = cc in omega arith)
+end-by End t e = refl
+
 module _ (s : List ℕ) (t : State) (n : ℕ) (c : Counts s t n) where
   -- each record counts one,
-  pub counts-more : (r : Record) → nextRecord s t .next ≡ Hands r → Counts s (nextRecord s t .state) (n + 1)
+  counts-more : (r : Record) → nextRecord s t .next ≡ Hands r → Counts s (nextRecord s t .state) (n + 1)
   counts-more r h =
       by-rest s t (c .rest) (λ e k q. absurd (no-record e r (sym (ap nextOf k) ∙ h)))
       (λ r′ g k i q.
@@ -135,7 +161,7 @@ module _ (s : List ℕ) (t : State) (n : ℕ) (c : Counts s t n) where
       (c .left)
 
   -- which is less than the file's bytes,
-  pub counts-room : (r : Record) → nextRecord s t .next ≡ Hands r → n + 1 < length s
+  counts-room : (r : Record) → nextRecord s t .next ≡ Hands r → n + 1 < length s
   counts-room r h = omega (arith, was-inside s t r h, c .below (was-open s t r h))
 
   -- an answer that is no record is the file's ending
@@ -157,9 +183,29 @@ module _ (s : List ℕ) (t : State) (n : ℕ) (c : Counts s t n) where
   end-of (stopped g) h = absurd (let z : _≡_ {A = ℕ} 0 1 = cc in omega arith)
 
   -- a refusal is what checking tells,
-  pub counts-refused : (f : Refusal) → nextRecord s t .next ≡ Refuses f → checkFile s ≡ Not f
+  counts-refused : (f : Refusal) → nextRecord s t .next ≡ Refuses f → checkFile s ≡ Not f
   counts-refused f h = told-ending (Refuses f) h (λ r k. let z : _≡_ {A = ℕ} 0 1 = cc in omega arith) (λ e k i. i ∙ refusal-of e f k)
 
   -- and the end makes the count what it tells.
-  pub counts-end : nextRecord s t .next ≡ End → checkFile s ≡ Records n
+  counts-end : nextRecord s t .next ≡ End → checkFile s ≡ Records n
   counts-end h = told-ending End h (λ r k. let z : _≡_ {A = ℕ} 0 1 = cc in omega arith) (λ e k i. i ∙ end-of e k)
+
+  -- So a program that passes the records: each counts one,
+  pub passed-more : (u : State) → goneOf (nextRecord s t) ≡ On u → Counts s u (n + 1)
+  passed-more u h = on-by _ _ u h (λ r k e. subst (λ (x : State). Counts s x (n + 1)) e (counts-more r k))
+
+  pub passed-room : (u : State) → goneOf (nextRecord s t) ≡ On u → n + 1 < length s
+  passed-room u h = on-by _ _ u h (λ r k e. counts-room r k)
+
+  -- less of the file is left after it,
+  pub passed-less : (u : State) → goneOf (nextRecord s t) ≡ On u → length s - u .at < length s - t .at
+  passed-less u h =
+      on-by _ _ u h
+      (λ r k e. let m : t .at < u .at = subst (λ (x : State). t .at < x .at) e (moves s t r k) in omega (arith, m, was-inside s t r k))
+
+  -- and what stops it is what checking tells.
+  pub passed-refused : (f : Refusal) → goneOf (nextRecord s t) ≡ Refused f → checkFile s ≡ Not f
+  passed-refused f h = counts-refused f (refused-by _ _ f h)
+
+  pub passed-end : goneOf (nextRecord s t) ≡ AtEnd → checkFile s ≡ Records n
+  passed-end h = counts-end (end-by _ _ h)

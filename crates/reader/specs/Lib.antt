@@ -1,3 +1,4 @@
 pub mod Open
 pub mod File
 pub mod Reader
+pub mod Code

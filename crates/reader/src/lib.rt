@@ -1,12 +1,15 @@
 // The reader of a prescription file: opened once over the whole file, then one call hands out one record.
 use field::Sofar;
 use record::Answer;
+use record::Passed;
 use record::Record;
 use record::Refusal;
 ghost use mathlib.Core.Path.{_≡_};
+ghost use Rattle.record.specs.Line.{refusal as refusalOf};
 ghost use Rattle.reader.specs.Open.{versionLine};
 ghost use Rattle.reader.specs.File.{checkFile};
 ghost use Rattle.reader.specs.Reader.{opened as openedOf, openFile, refuses, endAt, closing, on, nextRecord};
+ghost use Rattle.reader.specs.Code.Gone.{goneOf, goneBy};
 
 // Where the reader is in the file, and what the records before leave. A file that was refused on opening keeps its number here, and the offset
 // in `at`.
@@ -70,17 +73,24 @@ pub fn open(s: &[u8]) -> State
     opened(22, 0)
 }
 
+// A refusal at a place of the file.
+fn told(number: u8, at: usize) -> Refusal
+    ensures { λ r. ⌜ r ≡ refusalOf number at ⌝ }
+{
+    Refusal {
+        number: number,
+        at: at,
+        field: 0,
+        code: 0,
+        place: 0,
+    }
+}
+
 fn refused(t: State, number: u8) -> Step
     ensures { λ r. ⌜ r ≡ refuses t number ⌝ }
 {
     Step {
-        next: Handed::Refused(Refusal {
-            number: number,
-            at: t.at,
-            field: 0,
-            code: 0,
-            place: 0,
-        }),
+        next: Handed::Refused(told(number, t.at)),
         state: t,
     }
 }
@@ -144,6 +154,49 @@ pub fn next(s: &[u8], t: State) -> Step
     moved(t, answer, l.next)
 }
 
+// ---- a file checked, with no record made
+
+// As a call, but for the record.
+enum Gone {
+    On(State),
+    Refused(Refusal),
+    End,
+}
+
+// The state after a line that is passed, or its refusal.
+fn went(p: Passed) -> Gone
+    ensures { λ r. ⌜ r ≡ goneBy p ⌝ }
+{
+    match p {
+        Passed::On(x) => {
+            let sofar = x.sofar;
+            Gone::On(State {
+                number: 0,
+                at: x.next,
+                sofar: sofar,
+            })
+        }
+        Passed::Refused(f) => Gone::Refused(f),
+    }
+}
+
+// Passes the next record.
+fn pass(s: &[u8], t: State) -> Gone
+    ensures { λ r. ⌜ r ≡ goneOf (nextRecord (now (s .entry)) t) ⌝ }
+{
+    let at = t.at;
+    if t.number != 0 {
+        return Gone::Refused(told(t.number, at));
+    }
+    if !ends(s, at) {
+        return went(record::pass(t.sofar, s, at));
+    }
+    if order::closes(t.sofar.last) {
+        return Gone::End;
+    }
+    Gone::Refused(told(32, at))
+}
+
 // How many records a file has with its version line, or its refusal.
 pub enum Checked {
     Records(usize),
@@ -157,17 +210,15 @@ pub fn check(s: &[u8]) -> Checked
     let mut t = open(s);
     let mut n: usize = 1;
     loop {
-        let step = next(s, t);
-        let answer = step.next;
-        match answer {
-            Handed::Record(_) => {
-                t = step.state;
+        match pass(s, t) {
+            Gone::On(u) => {
+                t = u;
                 n += 1;
             }
-            Handed::Refused(f) => {
+            Gone::Refused(f) => {
                 return Checked::Refused(f);
             }
-            Handed::End => {
+            Gone::End => {
                 return Checked::Records(n);
             }
         }

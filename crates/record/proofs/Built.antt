@@ -94,6 +94,12 @@ fields-end s at h =
     let e : join (fieldsAt s at) ≡ l = ap join (inside s at h) ∙ join-split l in
     omega (arith, ap length e, ap length (line-part (drop at s)), length-append l (drop (length l) (drop at s)), length-drop at s)
 
+-- where a row that is right ends
+pub row-after : (joins : Supplement → Bool) (c : Sofar) (n from : ℕ) (fs : List (List ℕ)) (w : Row) → w ≡ readRow joins c n from fs → w .number ≡ 0 →
+    w .after ≡ from + length (join fs) + 1
+row-after joins c n from fs w e z =
+    ap (λ (r : Row). r .after) (e ∙ right-row joins c n from fs (ap (λ (r : Row). r .number) (sym e) ∙ z))
+
 -- ---- record by record
 
 module _ (joins : Supplement → Bool) (c : Sofar) (s : List ℕ) (from : ℕ) (h : from ≤ length s) where

@@ -1,13 +1,13 @@
 -- A line read along the file is the line of document 01.
 -- Assumes nothing.
-use Prim.Native.Nat.{ℕ, zero, suc, _+_, _-_, _≤_, _<_}
-use mathlib.Core.Path.{_≡_, refl, sym, ap, ap₂, _∙_, subst}
-use mathlib.Core.Bool.{Bool, true, false, cond}
-use mathlib.Core.List.{List, [], _∷_, _++_}
+use Prim.Native.Nat.{ℕ, _+_, _-_, _≤_, _<_}
+use mathlib.Core.Path.{_≡_, refl, sym, ap, ap₂, _∙_}
+use mathlib.Core.Bool.{Bool, true, false}
+use mathlib.Core.List.{List, [], _∷_}
 use native.Mathlib.Omega.{arith}
 use borrow.Author.Tests.{eq-eqb, ne-eqb, eqb-true}
 use lib.Dec.{eqb}
-use lib.ListN.{length, getD, drop, length-append}
+use lib.ListN.{length, length-append}
 use lib.Seq.{slice}
 use Rattle.cells.proofs.Split.{split as cases}
 use Rattle.line.specs.Fields.{join, fieldEnd}
@@ -20,12 +20,11 @@ use Rattle.row.specs.Table.{counted}
 use Rattle.row.specs.Row.{fieldsAt, lineEnds, readRow}
 use Rattle.row.specs.declared.Row.{Row}
 use Rattle.row.proofs.Walk.{outside, first, more, last, more-fit, size, some}
-use Rattle.record.specs.Record.{recordOf}
-use Rattle.record.specs.Line.{refusal, rowRefusal, fromRow, readFields, numberIn, recordNumber, readParts, lineAfter, lineAt}
-use Rattle.record.specs.Code.Built.{refusedLine, tookLine, fieldsLine}
+use Rattle.record.specs.Line.{refusal, fromRow, readFields, numberIn, recordNumber, readParts, lineAt}
+use Rattle.record.specs.Code.Built.{refusedLine, fieldsLine, Heads}
 use Rattle.record.specs.declared.Answer.{Answer}
 use Rattle.record.specs.declared.Answer.the-variants.{Took, Refused}
-use Rattle.record.specs.declared.Line.{Line}
+use Rattle.record.specs.declared.Head.{Head}
 use Rattle.record.proofs.Built.{right-row, built}
 
 -- the fields after the first, with its comma
@@ -51,7 +50,7 @@ module _ (joins : Supplement → Bool) (c : Sofar) (s : List ℕ) (at : ℕ) whe
   unknown = refl
 
   -- outside the file
-  pub nowhere : length s < at → refusedLine (refusal 23 at) ≡ lineAt joins c s at
+  nowhere : length s < at → refusedLine (refusal 23 at) ≡ lineAt joins c s at
   unfolding lineAt
   nowhere h =
       let p : readParts joins c at (fieldsAt s at) ≡ Refused (refusal 23 at) =
@@ -62,7 +61,7 @@ module _ (joins : Supplement → Bool) (c : Sofar) (s : List ℕ) (at : ℕ) whe
     number-is : recordNumber (fieldsAt s at) ≡ n
     number-is = ap (λ (f : List ℕ). numberIn (readNumber 1 999 f)) (first s at h e q) ∙ sym g
 
-    pub refused-number : (v : ℕ) → v ≡ follow (c .last) n → (v ≡ 0 → ⊥) → refusedLine (refusal v at) ≡ lineAt joins c s at
+    refused-number : (v : ℕ) → v ≡ follow (c .last) n → (v ≡ 0 → ⊥) → refusedLine (refusal v at) ≡ lineAt joins c s at
     unfolding lineAt
     refused-number v f z = rw (wrong-number (fieldsAt s at) n v number-is f z)
 
@@ -75,11 +74,11 @@ module _ (joins : Supplement → Bool) (c : Sofar) (s : List ℕ) (at : ℕ) whe
           let r : recordNumber (slice at e s ∷ fs) ≡ n = sym g in
           ap (readParts joins c at) p ∙ rw (r, k, ← f, eq-eqb v 0 z)
 
-      pub no-fields : lineEnds s e ≡ true → refusedLine (refusal 25 at) ≡ lineAt joins c s at
+      no-fields : lineEnds s e ≡ true → refusedLine (refusal 25 at) ≡ lineAt joins c s at
       unfolding lineAt readRow counted
       no-fields l = rw (by-fields [] (last s at h e q l))
 
-      pub with-fields : lineEnds s e ≡ false → fieldsLine joins c s at n (e + 1) ≡ lineAt joins c s at
+      with-fields : lineEnds s e ≡ false → fieldsLine joins c s at n (e + 1) ≡ lineAt joins c s at
       unfolding lineAt fieldsLine
       with-fields l =
           let fs : List (List ℕ) = fieldsAt s (e + 1) in
@@ -94,3 +93,33 @@ module _ (joins : Supplement → Bool) (c : Sofar) (s : List ℕ) (at : ℕ) whe
           omega (arith, ap (λ (x : Row). x .after) r, ap (λ (x : List (List ℕ)). length (join x)) p, join-more (slice at e s) fs (some s (e + 1) i), size s at h e q) in
           rw (a, y) (ap₂ (λ (x : Answer) (k : ℕ). record { answer = x; next = k }) (ap Took (built joins c s (e + 1) i n (eqb-true _ _ y))) u))
           (λ y. rw (a, y))
+
+-- What a line begins with, by what its number is told.
+module _ (last : ℕ) (s : List ℕ) (at : ℕ) where
+  abbrev head : ℕ → ℕ → ℕ → Head
+  head v n from = record { refusal = v; number = n; from = from }
+
+  -- a refusal before the fields
+  stopped : (v : ℕ) → (v ≡ 0 → ⊥) → ((joins : Supplement → Bool) (c : Sofar) → c .last ≡ last → refusedLine (refusal v at) ≡ lineAt joins c s at) →
+      Heads last s at (head v 0 0)
+  stopped v z f = record { line = λ joins c y. rw (ne-eqb v 0 z) (f joins c y); inside = λ y. absurd (z y) }
+
+  pub head-nowhere : length s < at → Heads last s at (head 23 0 0)
+  head-nowhere h = stopped 23 (λ z. omega arith) (λ joins c y. nowhere joins c s at h)
+
+  module _ (h : at ≤ length s) (e : ℕ) (q : e ≡ fieldEnd s at) (n : ℕ) (g : n ≡ numberIn (readNumber 1 999 (slice at e s))) (v : ℕ) (f : v ≡ follow last n) where
+    follows : (c : Sofar) → c .last ≡ last → v ≡ follow (c .last) n
+    follows c y = f ∙ ap (λ (l : ℕ). follow l n) (sym y)
+
+    pub head-refused : (v ≡ 0 → ⊥) → Heads last s at (head v 0 0)
+    head-refused z = stopped v z (λ joins c y. refused-number joins c s at h e q n g v (follows c y) z)
+
+    pub head-bare : v ≡ 0 → lineEnds s e ≡ true → Heads last s at (head 25 0 0)
+    head-bare z l = stopped 25 (λ y. omega arith) (λ joins c y. no-fields joins c s at h e q n g v (follows c y) z l)
+
+    pub head-fields : v ≡ 0 → lineEnds s e ≡ false → Heads last s at (head 0 n (e + 1))
+    head-fields z l =
+        record {
+          line = λ joins c y. with-fields joins c s at h e q n g v (follows c y) z l;
+          inside = λ y. more-fit s at h e q l;
+        }

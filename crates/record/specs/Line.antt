@@ -14,11 +14,13 @@ use Rattle.order.specs.Code.Next.{follow}
 use Rattle.field.specs.declared.Sofar.{Sofar}
 use Rattle.row.specs.Row.{fieldsAt, readRow}
 use Rattle.row.specs.declared.Row.{Row}
-use Rattle.record.specs.Record.{recordOf}
+use Rattle.record.specs.Record.{recordOf, after}
 use Rattle.record.specs.declared.Refusal.{Refusal}
 use Rattle.record.specs.declared.Answer.{Answer}
 use Rattle.record.specs.declared.Answer.the-variants.{Took, Refused}
 use Rattle.record.specs.declared.Line.{Line}
+use Rattle.record.specs.declared.Passed.{Passed}
+use Rattle.record.specs.declared.Passed.the-variants.{On, Refused as Stopped}
 
 -- A refusal of the record at an offset.
 abbrev pub refusal : ℕ → ℕ → Refusal
@@ -58,3 +60,11 @@ lineAfter (Refused f) next = record { answer = Refused f; next = 0 }
 -- The line at an offset of the file, and where the next one begins.
 unfoldable pub lineAt : (Supplement → Bool) → Sofar → List ℕ → ℕ → Line
 lineAt joins c s at = lineAfter (readParts joins c at (fieldsAt s at)) (at + length (join (fieldsAt s at)) + 2)
+
+abbrev pub passes : Sofar → Answer → ℕ → Passed
+passes c (Took r) next = On (record { sofar = after c r; next = next })
+passes c (Refused f) next = Stopped f
+
+-- What a line leaves: its record's, and where the next one begins; or the refusal.
+abbrev pub passedOf : Sofar → Line → Passed
+passedOf c l = passes c (l .answer) (l .next)

@@ -19,6 +19,9 @@ use Rattle.supplement.specs.Supplement.{readSupplement}
 use Rattle.supplement.specs.declared.Supplement.{Supplement}
 use Rattle.schedule.specs.Code.Kept.{kept, keepOf}
 use Rattle.schedule.specs.declared.Schedule.{Schedule}
+use Rattle.counter.specs.declared.RpNumber.{RpNumber}
+use Rattle.counter.specs.declared.DrugSerial.{DrugSerial}
+use Rattle.counter.specs.declared.SupplementSerial.{SupplementSerial}
 use Rattle.field.specs.Field.{numberOf}
 use Rattle.field.specs.declared.Sofar.{Sofar}
 use Rattle.row.specs.Table.{nth}
@@ -124,25 +127,31 @@ abbrev pub withCode : Schedule → SupplementCode → Schedule
 withCode t (supplementIs x) = keepOf x
 withCode t noSupplement = t
 
--- What the records up to this one leave: the month of record 51, the RP's number, the last serials ("both serials run 1, 2, 3 in each RP") and
--- what is kept of the RP's supplements.
+-- The month of record 51; no supplement yet.
+abbrev pub issued : Sofar → ℕ → Sofar
+issued c month = record { last = 51; month = month; rp = c .rp; drug = c .drug; supplement = c .supplement; schedule = kept [] }
+
+-- The RP's number; "both serials run 1, 2, 3 in each RP", and so do its supplements begin anew.
+abbrev pub begun : Sofar → RpNumber → Sofar
+begun c rp = record { last = 101; month = c .month; rp = rp; drug = record { 0 = 0 }; supplement = record { 0 = 0 }; schedule = kept [] }
+
+-- The supplement's serial, and what is kept of the RP's supplements.
+abbrev pub supplied : Sofar → SupplementSerial → SupplementCode → Sofar
+supplied c serial code =
+    record { last = 181; month = c .month; rp = c .rp; drug = c .drug; supplement = serial; schedule = withCode (c .schedule) code }
+
+-- The drug's serial.
+abbrev pub drugged : Sofar → DrugSerial → Sofar
+drugged c serial =
+    record { last = 201; month = c .month; rp = c .rp; drug = serial; supplement = c .supplement; schedule = c .schedule }
+
+-- What the records up to this one leave.
 abbrev pub after : Sofar → Record → Sofar
-after c (Issue x) =
-    record { last = 51; month = x .date .month; rp = c .rp; drug = c .drug; supplement = c .supplement; schedule = kept [] }
-after c (Rp x) =
-    record { last = 101; month = c .month; rp = x .rp; drug = record { 0 = 0 }; supplement = record { 0 = 0 }; schedule = kept [] }
+after c (Issue x) = issued c (x .date .month)
+after c (Rp x) = begun c (x .rp)
 after c (Usage x) = withLast c 111
-after c (Supply x) =
-    record {
-      last = 181;
-      month = c .month;
-      rp = c .rp;
-      drug = c .drug;
-      supplement = x .serial;
-      schedule = withCode (c .schedule) (x .code);
-    }
-after c (Drug x) =
-    record { last = 201; month = c .month; rp = c .rp; drug = x .serial; supplement = c .supplement; schedule = c .schedule }
+after c (Supply x) = supplied c (x .serial) (x .code)
+after c (Drug x) = drugged c (x .serial)
 after c (Kept x) = withLast c (x .number)
 
 -- The supplements of an RP with the one of a record more, where it has one.

@@ -19,9 +19,9 @@ ghost use Rattle.usage.specs.Usage.{readUsage};
 ghost use Rattle.supplement.specs.Supplement.{readSupplement};
 ghost use Rattle.number.specs.Number.{readNumber};
 ghost use Rattle.schedule.specs.Code.Kept.{mayJoin};
-ghost use Rattle.record.specs.Record.{textAt, keptField, dateIn, usageIn, supplementIn, withLast, withCode, start as startOf, after as afterOf};
-ghost use Rattle.record.specs.Line.{refusal, rowRefusal, numberIn, lineAt};
-ghost use Rattle.record.specs.Code.Built.{placeIn, built51, built101, built111, built181, built201, builtOf, refusedLine, fieldsLine};
+ghost use Rattle.record.specs.Record.{textAt, keptField, dateIn, usageIn, supplementIn, withLast, withCode, issued, begun, supplied, drugged, start as startOf, after as afterOf};
+ghost use Rattle.record.specs.Line.{refusal as refusalOf, rowRefusal, numberIn, lineAt, passedOf};
+ghost use Rattle.record.specs.Code.Built.{placeIn, built51, built101, built111, built181, built201, builtOf, refusedLine, fieldsLine, Heads, Leaves};
 
 // A text as its place in the file: from its first byte to the one after its last.
 pub struct Place {
@@ -118,6 +118,17 @@ pub enum Answer {
 pub struct Line {
     pub answer: Answer,
     pub next: usize,
+}
+
+// A line that is passed, with no record made of it: what the records up to it leave, and where the next line begins.
+pub struct Onward {
+    pub sofar: Sofar,
+    pub next: usize,
+}
+
+pub enum Passed {
+    On(Onward),
+    Refused(Refusal),
 }
 
 // A text of a record: that part of the file; nothing where the file has no such place.
@@ -273,32 +284,37 @@ fn record_of(n: u16, s: &[u8], v: [Value; 9], fields: Place) -> Record
 
 // ---- lines
 
-fn refused(number: u8, at: usize) -> Line
-    ensures { λ r. ⌜ r ≡ refusedLine (refusal number at) ⌝ }
+// A refusal of the record at a place.
+fn refused_at(number: u8, at: usize) -> Refusal
+    ensures { λ r. ⌜ r ≡ refusalOf number at ⌝ }
 {
-    Line {
-        answer: Answer::Refused(Refusal {
-            number: number,
-            at: at,
-            field: 0,
-            code: 0,
-            place: 0,
-        }),
-        next: 0,
+    Refusal {
+        number: number,
+        at: at,
+        field: 0,
+        code: 0,
+        place: 0,
     }
 }
 
-fn refused_row(at: usize, w: Row) -> Line
-    ensures { λ r. ⌜ r ≡ refusedLine (rowRefusal at w) ⌝ }
+// A refusal of its fields.
+fn refused_fields(at: usize, w: Row) -> Refusal
+    ensures { λ r. ⌜ r ≡ rowRefusal at w ⌝ }
+{
+    Refusal {
+        number: w.number,
+        at: at,
+        field: w.field,
+        code: w.code,
+        place: w.place,
+    }
+}
+
+fn refused_line(f: Refusal) -> Line
+    ensures { λ r. ⌜ r ≡ refusedLine f ⌝ }
 {
     Line {
-        answer: Answer::Refused(Refusal {
-            number: w.number,
-            at: at,
-            field: w.field,
-            code: w.code,
-            place: w.place,
-        }),
+        answer: Answer::Refused(f),
         next: 0,
     }
 }
@@ -313,6 +329,42 @@ fn record_number(f: &[u8]) -> u16
     }
 }
 
+// What a line begins with: the refusal's number, or 0 and the record's number, and where its first field begins.
+struct Head {
+    refusal: u8,
+    number: u16,
+    from: usize,
+}
+
+fn head_with(refusal: u8, number: u16, from: usize) -> Head
+    ensures { λ r. ⌜ r ≡ record { refusal = refusal; number = number; from = from } ⌝ }
+{
+    Head {
+        refusal: refusal,
+        number: number,
+        from: from,
+    }
+}
+
+// The tests of a line before those of its fields, after a record of the number `last`: 23, 24, 32, and 25 where it has none.
+fn read_head(last: u16, s: &[u8], at: usize) -> Head
+    ensures { λ h. ⌜ Heads last (now (s .entry)) at h ⌝ }
+{
+    if s.len() < at {
+        return head_with(23, 0, 0);
+    }
+    let end = line::field_end(s, at);
+    let n = record_number(&s[at..end]);
+    let verdict = order::follow(last, n);
+    if verdict != 0 {
+        return head_with(verdict, 0, 0);
+    }
+    if row::line_ends(s, end) {
+        return head_with(25, 0, 0);
+    }
+    head_with(0, n, end + 1)
+}
+
 // The fields of the record at a place, of which the first begins at `from`, where they are right.
 fn read_fields(c: Sofar, s: &[u8], at: usize, n: u16, from: usize) -> Line
     requires { ⌜ from ≤ length (now s) ⌝ }
@@ -320,7 +372,7 @@ fn read_fields(c: Sofar, s: &[u8], at: usize, n: u16, from: usize) -> Line
 {
     let w = row::read(c, s, n, from);
     if w.number != 0 {
-        return refused_row(at, w);
+        return refused_line(refused_fields(at, w));
     }
     let values = w.values;
     let fields = Place {
@@ -337,38 +389,28 @@ fn read_fields(c: Sofar, s: &[u8], at: usize, n: u16, from: usize) -> Line
 pub fn read(c: Sofar, s: &[u8], at: usize) -> Line
     ensures { λ r. ⌜ r ≡ lineAt (mayJoin (c .month) (c .schedule)) c (now (s .entry)) at ⌝ }
 {
-    if s.len() < at {
-        return refused(23, at);
+    let h = read_head(c.last, s, at);
+    if h.refusal != 0 {
+        return refused_line(refused_at(h.refusal, at));
     }
-    let end = line::field_end(s, at);
-    let n = record_number(&s[at..end]);
-    let verdict = order::follow(c.last, n);
-    if verdict != 0 {
-        return refused(verdict, at);
-    }
-    if row::line_ends(s, end) {
-        return refused(25, at);
-    }
-    read_fields(c, s, at, n, end + 1)
+    read_fields(c, s, at, h.number, h.from)
 }
 
 // ---- what a record leaves
 
-fn after_issue(c: Sofar, x: Record51) -> Sofar
-    ensures { λ r. ⌜ r ≡ afterOf c (Record.Issue x) ⌝ }
+fn after_issue(c: Sofar, month: u8) -> Sofar
+    ensures { λ r. ⌜ r ≡ issued c month ⌝ }
 {
-    let date = x.date;
     let mut t = c;
     t.last = 51;
-    t.month = date.month;
+    t.month = month;
     t.schedule = schedule::none();
     t
 }
 
-fn after_rp(c: Sofar, x: Record101) -> Sofar
-    ensures { λ r. ⌜ r ≡ afterOf c (Record.Rp x) ⌝ }
+fn after_rp(c: Sofar, rp: RpNumber) -> Sofar
+    ensures { λ r. ⌜ r ≡ begun c rp ⌝ }
 {
-    let rp = x.rp;
     let drug = DrugSerial(0);
     let supplement = SupplementSerial(0);
     let mut t = c;
@@ -390,12 +432,10 @@ fn scheduled(t: Schedule, code: SupplementCode) -> Schedule
     }
 }
 
-fn after_supplement(c: Sofar, x: Record181) -> Sofar
-    ensures { λ r. ⌜ r ≡ afterOf c (Record.Supplement x) ⌝ }
+fn after_supplement(c: Sofar, serial: SupplementSerial, code: SupplementCode) -> Sofar
+    ensures { λ r. ⌜ r ≡ supplied c serial code ⌝ }
 {
-    let serial = x.serial;
     let before = c.schedule;
-    let code = x.code;
     let mut t = c;
     t.last = 181;
     t.supplement = serial;
@@ -403,10 +443,9 @@ fn after_supplement(c: Sofar, x: Record181) -> Sofar
     t
 }
 
-fn after_drug(c: Sofar, x: Record201) -> Sofar
-    ensures { λ r. ⌜ r ≡ afterOf c (Record.Drug x) ⌝ }
+fn after_drug(c: Sofar, serial: DrugSerial) -> Sofar
+    ensures { λ r. ⌜ r ≡ drugged c serial ⌝ }
 {
-    let serial = x.serial;
     let mut t = c;
     t.last = 201;
     t.drug = serial;
@@ -441,11 +480,62 @@ pub fn after(c: Sofar, r: Record) -> Sofar
     ensures { λ t. ⌜ t ≡ afterOf c r ⌝ }
 {
     match r {
-        Record::Issue(x) => after_issue(c, x),
-        Record::Rp(x) => after_rp(c, x),
+        Record::Issue(x) => after_issue(c, x.date.month),
+        Record::Rp(x) => after_rp(c, x.rp),
         Record::Usage(_) => after_other(c, 111),
-        Record::Supplement(x) => after_supplement(c, x),
-        Record::Drug(x) => after_drug(c, x),
+        Record::Supplement(x) => {
+            let code = x.code;
+            after_supplement(c, x.serial, code)
+        }
+        Record::Drug(x) => after_drug(c, x.serial),
         Record::Kept(x) => after_other(c, x.number),
     }
+}
+
+// ---- lines passed
+
+// What the record of a number and its values would leave, though it is not made.
+fn left(c: Sofar, n: u16, s: &[u8], v: [Value; 9]) -> Sofar
+    ensures { λ r. ⌜ Leaves c n (now (s .entry)) v r ⌝ }
+{
+    if n == 51 {
+        let date = date_at(s, placed(v[0]));
+        return after_issue(c, date.month);
+    }
+    if n == 101 {
+        return after_rp(c, RpNumber(v[0].n));
+    }
+    if n == 181 {
+        return after_supplement(c, SupplementSerial(v[1].n), supplement_at(s, placed(v[4])));
+    }
+    if n == 201 {
+        return after_drug(c, DrugSerial(v[1].n));
+    }
+    after_other(c, n)
+}
+
+fn pass_fields(c: Sofar, s: &[u8], at: usize, n: u16, from: usize) -> Passed
+    requires { ⌜ from ≤ length (now s) ⌝ }
+    ensures { λ r. ⌜ r ≡ passedOf c (fieldsLine (mayJoin (c .month) (c .schedule)) c (now (s .entry)) at n from) ⌝ }
+{
+    let w = row::read(c, s, n, from);
+    if w.number != 0 {
+        return Passed::Refused(refused_fields(at, w));
+    }
+    let values = w.values;
+    Passed::On(Onward {
+        sofar: left(c, n, s, values),
+        next: w.after + 1,
+    })
+}
+
+// Passes the line at a place of the file: what reading it and its record leave.
+pub fn pass(c: Sofar, s: &[u8], at: usize) -> Passed
+    ensures { λ r. ⌜ r ≡ passedOf c (lineAt (mayJoin (c .month) (c .schedule)) c (now (s .entry)) at) ⌝ }
+{
+    let h = read_head(c.last, s, at);
+    if h.refusal != 0 {
+        return Passed::Refused(refused_at(h.refusal, at));
+    }
+    pass_fields(c, s, at, h.number, h.from)
 }

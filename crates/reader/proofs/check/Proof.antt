@@ -1,15 +1,11 @@
--- The records are counted as they come.
-use Prim.Native.Nat.{ℕ, _+_, _-_, _<_}
-use mathlib.Core.Path.{_≡_, sym, ap, subst, _∙_}
+-- The records are counted as they are passed.
+use Prim.Native.Nat.{_+_, _-_, _<_}
+use mathlib.Core.Path.{sym, subst, _∙_}
 use native.Mathlib.Omega.{arith}
 use borrow.Author.Needs.{needs}
 use lib.ListN.{length}
-use Rattle.reader.specs.File.{checkFile}
-use Rattle.reader.specs.Reader.{nextRecord}
 use Rattle.reader.specs.declared.State.{State}
-use Rattle.reader.specs.declared.Step.{Step}
-use Rattle.reader.specs.declared.Handed.{Handed}
-use Rattle.reader.proofs.Laws.{moves, was-inside, Counts, counts-one, counts-more, counts-room, counts-refused, counts-end}
+use Rattle.reader.proofs.Laws.{Counts, counts-one, passed-more, passed-room, passed-less, passed-refused, passed-end}
 use Rattle.reader.proofs.check.Statement.{statement}
 use Rattle.reader.proofs.check.Tie as tie
 
@@ -27,59 +23,52 @@ loop-holds c =
     let a = c .before .before .args in
     subst (λ (t : State). Counts (a .s .now) t 1) (sym (c .«open» .ensures)) (counts-one (a .s .now))
 
-next-requires : tie.Need-next-requires Inv-loop μ-loop
-next-requires c κs = tt
+pass-requires : tie.Need-pass-requires Inv-loop μ-loop
+pass-requires c κs = tt
 
-enum-told : tie.Need-enum-told Inv-loop μ-loop
-enum-told c = search needs
+enum-known-u : tie.Need-enum-known-u Inv-loop μ-loop
+enum-known-u c = search needs
 
 add-n : tie.Need-add-n Inv-loop μ-loop
 add-n c =
     let a = c .before .before .before .before .before .before .before .args in
     let l = c .before .before .before .before .loop in
-    let r = c .before .before .before .next in
-    let h = ap (λ (x : Step). x .next) (sym (r .ensures)) ∙ c .before .enum-told .given .1 in
-    let k : l .n + 1 < length (a .s .now) = counts-room (a .s .now) (l .t) (l .n) (l .inv) _ h in
+    let h = sym (c .before .before .before .pass .ensures) ∙ c .before .u .given .1 in
+    let k : c .before .before .before .before .loop .n + 1 < length (a .s .now) = passed-room (a .s .now) (l .t) (l .n) (l .inv) _ h in
     omega (arith, k)
 
 loop-less : tie.Need-loop-less Inv-loop μ-loop
 loop-less c =
     let a = c .before .before .before .before .before .before .before .args in
     let l = c .before .before .before .before .loop in
-    let r = c .before .before .before .next in
-    let h = ap (λ (x : Step). x .next) (sym (r .ensures)) ∙ c .before .enum-told .given .1 in
-    let m : l .t .at < nextRecord (a .s .now) (l .t) .state .at = moves (a .s .now) (l .t) _ h in
-    let i : l .t .at < length (a .s .now) = was-inside (a .s .now) (l .t) _ h in
-    let e : r .result .state .at ≡ nextRecord (a .s .now) (l .t) .state .at = ap (λ (x : Step). x .state .at) (r .ensures) in
-    omega (arith, m, i, e)
+    let h = sym (c .before .before .before .pass .ensures) ∙ c .before .u .given .1 in
+    passed-less (a .s .now) (l .t) (l .n) (l .inv) _ h
 
 loop-again : tie.Need-loop-again Inv-loop μ-loop
 loop-again c =
     let a = c .before .before .before .before .before .before .before .args in
     let l = c .before .before .before .before .loop in
-    let r = c .before .before .before .next in
-    let h = ap (λ (x : Step). x .next) (sym (r .ensures)) ∙ c .before .enum-told .given .1 in
-    subst (λ (t : State). Counts (a .s .now) t (l .n + 1)) (sym (ap (λ (x : Step). x .state) (r .ensures))) (counts-more (a .s .now) (l .t) (l .n) (l .inv) _ h)
+    let h = sym (c .before .before .before .pass .ensures) ∙ c .before .u .given .1 in
+    passed-more (a .s .now) (l .t) (l .n) (l .inv) _ h
 
-enum-known-answer : tie.Need-enum-known-answer Inv-loop μ-loop
-enum-known-answer c = search needs
+enum-known-f : tie.Need-enum-known-f Inv-loop μ-loop
+enum-known-f c = search needs
 
 returns : tie.Need-returns Inv-loop μ-loop
 returns c =
     let a = c .before .before .before .before .before .before .before .args in
     let l = c .before .before .before .before .loop in
-    let r = c .before .before .before .next in
-    sym (counts-refused (a .s .now) (l .t) (l .n) (l .inv) _ (ap (λ (x : Step). x .next) (sym (r .ensures)) ∙ c .before .answer .given .1))
+    let h = sym (c .before .before .before .pass .ensures) ∙ c .before .f .given .1 in
+    sym (passed-refused (a .s .now) (l .t) (l .n) (l .inv) _ h)
 
-enum-told-2 : tie.Need-enum-told-2 Inv-loop μ-loop
-enum-told-2 c = search needs
+enum-told : tie.Need-enum-told Inv-loop μ-loop
+enum-told c = search needs
 
 returns-2 : tie.Need-returns-2 Inv-loop μ-loop
 returns-2 c =
     let a = c .before .before .before .before .before .before .args in
     let l = c .before .before .before .loop in
-    let r = c .before .before .next in
-    sym (counts-end (a .s .now) (l .t) (l .n) (l .inv) (ap (λ (x : Step). x .next) (sym (r .ensures)) ∙ c .enum-told2 .given .1))
+    sym (passed-end (a .s .now) (l .t) (l .n) (l .inv) (sym (c .before .before .pass .ensures) ∙ c .enum-told .given .1))
 
 pub check-spec : {M : Type 1} → statement M
 check-spec =
@@ -89,12 +78,12 @@ check-spec =
     μ-loop
     open-requires
     loop-holds
-    next-requires
-    enum-told
+    pass-requires
+    enum-known-u
     add-n
     loop-less
     loop-again
-    enum-known-answer
+    enum-known-f
     returns
-    enum-told-2
+    enum-told
     returns-2)

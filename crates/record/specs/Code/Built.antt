@@ -1,10 +1,11 @@
 -- Records built from what was read of their fields.
 -- Assumes nothing.
-use Prim.Native.Nat.{ℕ, _+_, _-_}
+use Prim.Native.Nat.{ℕ, _+_, _-_, _≤_}
+use mathlib.Core.Path.{_≡_}
 use mathlib.Core.Bool.{Bool, cond}
-use mathlib.Core.List.{List, []}
+use mathlib.Core.List.{List}
 use lib.Dec.{eqb}
-use lib.ListN.{getD}
+use lib.ListN.{length, getD}
 use Rattle.date.specs.Date.{readDate}
 use Rattle.usage.specs.Usage.{readUsage}
 use Rattle.supplement.specs.Supplement.{readSupplement}
@@ -13,15 +14,15 @@ use Rattle.field.specs.declared.Sofar.{Sofar}
 use Rattle.row.specs.Row.{noValue, fieldsAt, readRow}
 use Rattle.row.specs.declared.Value.{Value}
 use Rattle.row.specs.declared.Row.{Row}
-use Rattle.record.specs.Record.{dateIn, usageIn, supplementIn, textAt}
-use Rattle.record.specs.Line.{rowRefusal}
+use Rattle.record.specs.Record.{dateIn, usageIn, supplementIn, textAt, after}
+use Rattle.record.specs.Line.{refusal, rowRefusal, lineAt}
 use Rattle.record.specs.declared.Place.{Place}
 use Rattle.record.specs.declared.Record.{Record}
 use Rattle.record.specs.declared.Record.the-variants.{Issue, Rp, Usage, Supplement as Supply, Drug, Kept}
 use Rattle.record.specs.declared.Refusal.{Refusal}
-use Rattle.record.specs.declared.Answer.{Answer}
 use Rattle.record.specs.declared.Answer.the-variants.{Took, Refused}
 use Rattle.record.specs.declared.Line.{Line}
+use Rattle.record.specs.declared.Head.{Head}
 
 -- The kth value, counted from 1.
 abbrev pub value : ℕ → List Value → Value
@@ -110,3 +111,17 @@ unfoldable pub fieldsLine : (Supplement → Bool) → Sofar → List ℕ → ℕ
 fieldsLine joins c s at n from =
     cond (eqb (readRow joins c n from (fieldsAt s from) .number) 0) (tookLine n s from (readRow joins c n from (fieldsAt s from)))
     (refusedLine (rowRefusal at (readRow joins c n from (fieldsAt s from))))
+
+-- The line from what it begins with.
+abbrev pub headedLine : (Supplement → Bool) → Sofar → List ℕ → ℕ → Head → Line
+headedLine joins c s at h =
+    cond (eqb (h .refusal) 0) (fieldsLine joins c s at (h .number) (h .from)) (refusedLine (refusal (h .refusal) at))
+
+-- What a line begins with: from it the line is read as document 01 says, after any records of which the last has that number.
+pub record Heads (last : ℕ) (s : List ℕ) (at : ℕ) (h : Head) : Type 0 where
+  pub line : (joins : Supplement → Bool) (c : Sofar) → c .last ≡ last → headedLine joins c s at h ≡ lineAt joins c s at
+  pub inside : h .refusal ≡ 0 → h .from ≤ length s
+
+-- What a record leaves that is built from these values: a kept one leaves its number alone, wherever its fields are.
+abbrev pub Leaves : Sofar → ℕ → List ℕ → List Value → Sofar → Type 0
+Leaves c n s vs r = (fields : Place) → r ≡ after c (builtOf n s vs fields)

@@ -1,0 +1,76 @@
+-- As a call, by the state, the place and the line.
+use mathlib.Core.Path.{ap, sym, _∙_}
+use borrow.Author.Tests.{eq-eqb, ne-eqb, not-true, not-false}
+use Rattle.schedule.specs.Code.Kept.{mayJoin}
+use Rattle.record.specs.Line.{lineAt}
+use Rattle.record.specs.declared.Line.{Line}
+use Rattle.reader.specs.Reader.{nextRecord}
+use Rattle.reader.specs.Code.Gone.{goneBy}
+use Rattle.reader.proofs.Laws.{gone-by}
+use borrow.Author.Needs.{needs}
+use Rattle.reader.proofs.pass.Statement.{statement}
+use Rattle.reader.proofs.pass.Tie as tie
+
+told-requires : tie.Need-told-requires
+told-requires c κs = search needs
+
+returns : tie.Need-returns
+unfolding nextRecord
+returns c = rw (ne-eqb _ _ (c .before .if1 .taken), c .told .ensures)
+
+ends-requires : tie.Need-ends-requires
+ends-requires c κs = search needs
+
+pass-requires : tie.Need-pass-requires
+pass-requires c κs = search needs
+
+went-requires : tie.Need-went-requires
+went-requires c κs = search needs
+
+returns-2 : tie.Need-returns-2
+unfolding nextRecord
+returns-2 c =
+    let a = c .before .before .before .before .before .before .before .args in
+    let l : Line = lineAt (mayJoin (a .t .sofar .month) (a .t .sofar .schedule)) (a .t .sofar) (a .s .now) (a .t .at) in
+    rw (eq-eqb _ _ (c .before .before .before .before .if1 .left), sym (c .before .before .before .ends .ensures) ∙ not-true _ (c .before .before .if2 .taken))
+    (c .went .ensures ∙ ap goneBy (c .before .pass .ensures) ∙ gone-by (a .t) (l .answer) (l .next))
+
+closes-requires : tie.Need-closes-requires
+closes-requires c κs = search needs
+
+returns-3 : tie.Need-returns-3
+unfolding nextRecord
+returns-3 c =
+    rw (
+      eq-eqb _ _ (c .before .before .before .before .if1 .left),
+      sym (c .before .before .before .ends .ensures) ∙ not-false _ (c .before .before .if2 .left),
+      sym (c .before .closes .ensures) ∙ c .if3 .taken,
+    )
+
+told-requires-2 : tie.Need-told-requires-2
+told-requires-2 c κs = search needs
+
+returns-4 : tie.Need-returns-4
+unfolding nextRecord
+returns-4 c =
+    rw (
+      eq-eqb _ _ (c .before .before .before .before .before .if1 .left),
+      sym (c .before .before .before .before .ends .ensures) ∙ not-false _ (c .before .before .before .if2 .left),
+      sym (c .before .before .closes .ensures) ∙ c .before .if3 .left,
+      c .told2 .ensures,
+    )
+
+pub pass-spec : {M : Type 1} → statement M
+pass-spec =
+    tie.close
+    (tie.spec
+    told-requires
+    returns
+    ends-requires
+    pass-requires
+    went-requires
+    returns-2
+    closes-requires
+    returns-3
+    told-requires-2
+    returns-4)

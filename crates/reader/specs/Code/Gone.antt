@@ -1,0 +1,24 @@
+-- A call without its record: where the reader goes on, or why it does not.
+-- Assumes nothing.
+use Rattle.record.specs.declared.Passed.{Passed}
+use Rattle.record.specs.declared.Passed.the-variants.{On as Along, Refused as Stopped}
+use Rattle.reader.specs.declared.State.{State}
+use Rattle.reader.specs.declared.Handed.{Handed}
+use Rattle.reader.specs.declared.Handed.the-variants.{Record as Hands, Refused as Refuses, End as Ends}
+use Rattle.reader.specs.declared.Step.{Step}
+use Rattle.reader.specs.declared.Gone.{Gone}
+use Rattle.reader.specs.declared.Gone.the-variants.{On, Refused, End}
+
+abbrev pub gone : Handed → State → Gone
+gone (Hands r) t = On t
+gone (Refuses f) t = Refused f
+gone Ends t = End
+
+-- Of a call,
+abbrev pub goneOf : Step → Gone
+goneOf x = gone (x .next) (x .state)
+
+-- and of a line that is passed.
+abbrev pub goneBy : Passed → Gone
+goneBy (Along x) = On (record { number = 0; at = x .next; sofar = x .sofar })
+goneBy (Stopped f) = Refused f
