@@ -36,11 +36,11 @@ run-read [] h = refl
 run-read (b ∷ s) h = absurd (let z : wrong ≡ read = sym (run-wrong s) ∙ h in omega arith)
 
 -- ---- a well framed file is read whole
-plain-least : (b : ℕ) → plain b ≡ true → 0x20 ≤ b
+pub plain-least : (b : ℕ) → plain b ≡ true → 0x20 ≤ b
 unfolding plain
 plain-least b h = leb-true 0x20 b (and-parts (leb 0x20 b) _ h .0)
 
-in-plain : (b : ℕ) → plain b ≡ true → inLine b ≡ 0
+pub in-plain : (b : ℕ) → plain b ≡ true → inLine b ≡ 0
 unfolding inLine
 in-plain b h = let l : 0x20 ≤ b = plain-least b h in rw (ne-eqb b 0x0d (omega arith), h)
 

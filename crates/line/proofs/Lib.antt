@@ -1,4 +1,5 @@
 pub mod Steps
 pub mod Frame
+pub mod Pairs
 pub mod Fields
 pub mod Laws

@@ -1,10 +1,13 @@
 // Lines and fields: the frame of a file, and where a field ends.
 use cells::Fault;
 ghost use mathlib.Core.Path.{_≡_};
+ghost use mathlib.Core.Bool.{true};
 ghost use Prim.Native.Nat.{_+_, _≤_};
 ghost use lib.ListN.{length, drop};
+ghost use Rattle.cells.specs.Test.{fault};
 ghost use Rattle.line.specs.Frame.{plain as plainOf, inLine, next as nextOf, frameFault};
 ghost use Rattle.line.specs.Code.Past.{plains, past as pastOf};
+ghost use Rattle.line.specs.Code.Pairs.{mayFollow};
 ghost use Rattle.line.specs.Fields.{ends as endsOf, fieldEnd};
 
 // What has been read of a file: a line or nothing, a line and its CR, lines with their CR LF, all, or what no file begins with.
@@ -87,10 +90,43 @@ fn past(s: &[u8], state: u8, at: usize) -> usize
     at
 }
 
+// May b stand right after a in a well framed file? An LF stands after each CR and nowhere else, 1Ah after an LF only, and nothing after 1Ah.
+fn may_follow(a: u8, b: u8) -> bool
+    ensures { λ r. ⌜ r ≡ mayFollow a b ⌝ }
+{
+    ((a == b'\r') == (b == b'\n'))
+        & (plain(b) | (b == b'\r') | (b == b'\n') | ((a == b'\n') & (b == 0x1a)))
+        & (a != 0x1a)
+}
+
+// Is a file well framed? The first byte, the last, and each byte by the one before it are tested in one pass that stops nowhere, so that a
+// processor takes many bytes at a time; where a fault is, the pass does not say.
+fn framed(s: &[u8]) -> bool
+    ensures { λ r. ⌜ (r ≡ true → frameFault (now (s .entry)) ≡ fault 0 0) ⌝ }
+{
+    if s.len() < 2 {
+        return false;
+    }
+    let last = s.len() - 1;
+    let mut ok = (plain(s[0]) | (s[0] == b'\r')) & (s[last] == 0x1a);
+    let mut i = 0;
+    while i < last {
+        ok = ok & may_follow(s[i], s[i + 1]);
+        i += 1;
+    }
+    ok
+}
+
 // The first byte that no well framed file has there: 21 at its offset, or at the end; 0 where the file is well framed.
 pub fn frame_fault(s: &[u8]) -> Fault
     ensures { λ r. ⌜ r ≡ frameFault (now (s .entry)) ⌝ }
 {
+    if framed(s) {
+        return Fault {
+            number: 0,
+            place: 0,
+        };
+    }
     let mut state = LINE;
     let mut i: usize = 0;
     while i < s.len() {

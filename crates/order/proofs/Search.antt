@@ -2,18 +2,15 @@
 -- Assumes nothing.
 use Prim.Native.Nat.{ℕ, _+_, _<_}
 use mathlib.Core.Path.{_≡_}
-use mathlib.Core.Bool.{Bool, true, false}
+use mathlib.Core.Bool.{Bool, _||_, or-assoc}
 use mathlib.Core.List.{List}
 use native.Mathlib.Numerals.{add-one}
 use lib.ListN.{length, getD, drop}
 use lib.Seq.{drop-cons}
 use Rattle.order.specs.Order.{some}
 
-module _ (p : ℕ → Bool) (t : List ℕ) (i : ℕ) where
-  pub found : i < length t → p (getD t i 0) ≡ true → some p (drop i t) ≡ true
-  unfolding some
-  found h e = rw (drop-cons t i 0 h) (simp e)
-
-  pub step : i < length t → p (getD t i 0) ≡ false → some p (drop i t) ≡ some p (drop (i + 1) t)
-  unfolding some
-  step h e = rw (add-one, drop-cons t i 0 h) (simp e)
+-- `found` says whether one has been found before
+pub step : (p : ℕ → Bool) (t : List ℕ) (i : ℕ) (found : Bool) → i < length t →
+    (found || p (getD t i 0)) || some p (drop (i + 1) t) ≡ found || some p (drop i t)
+unfolding some
+step p t i found h = rw (add-one, drop-cons t i 0 h) (or-assoc found (p (getD t i 0)) _)

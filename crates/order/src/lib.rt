@@ -49,19 +49,18 @@ fn between(last: u16, n: u16, m: u16) -> bool
     (last < m) & (m < n)
 }
 
-// Does n leave out a needed record, coming straight after the last one?
+// Does n leave out a needed record, coming straight after the last one? All are looked at, so that they are tested side by side.
 fn skips(last: u16, n: u16) -> bool
     ensures { λ r. ⌜ r ≡ skipsOf last n ⌝ }
 {
     let needed = NEEDED;
+    let mut skipped = false;
     let mut i: usize = 0;
     while i < 11 {
-        if between(last, n, needed[i]) {
-            return true;
-        }
+        skipped = skipped | between(last, n, needed[i]);
         i += 1;
     }
-    false
+    skipped
 }
 
 // Is n above the last number, or a record that repeats?

@@ -2,10 +2,10 @@
 -- Assumes nothing.
 use Prim.Native.Nat.{ℕ, zero, suc, _<_, _≤_}
 use mathlib.Core.Path.{_≡_, refl}
-use mathlib.Core.Bool.{Bool, true, false, not, _||_}
+use mathlib.Core.Bool.{Bool, true, false, not, _||_, and-false}
 use mathlib.Core.List.{List, [], _∷_, map}
 use native.Mathlib.Omega.{arith}
-use borrow.Author.Tests.{leb-true, eqb-false, not-true}
+use borrow.Author.Tests.{leb-true, lt-leb, eqb-false, not-true}
 use lib.Dec.{eqb}
 use lib.ListN.{length, getD}
 use Rattle.text.specs.Text.{between, single, lead, second, allWhole, characters, starts, ends, text}
@@ -31,6 +31,14 @@ single-plain b h =
 lead-plain : (b : ℕ) → lead b ≡ true → Plain b
 unfolding lead
 lead-plain b h = in-one 0x81 0x9f 0xe0 0xef b (Plain b) h (λ l m. omega arith) (λ l m. omega arith)
+
+-- No character by itself is the first byte of a pair.
+pub single-no-lead : (b : ℕ) → single b ≡ true → lead b ≡ false
+unfolding single lead
+single-no-lead b h =
+    in-one 0x20 0x7e 0xa1 0xdf b (lead b ≡ false) (and-parts (not (eqb b 0x2c)) _ h .1)
+    (λ l m. rw (lt-leb 0x81 b (omega arith), lt-leb 0xe0 b (omega arith)))
+    (λ l m. simp (lt-leb b 0x9f (omega arith), lt-leb 0xe0 b (omega arith), and-false))
 
 second-plain : (b : ℕ) → second b ≡ true → Plain b
 unfolding second

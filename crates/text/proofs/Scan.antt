@@ -13,6 +13,7 @@ use lib.Seq.{drop-cons, drop-length}
 use Rattle.text.specs.Text.{Character, single, lead, second, whole, allWhole, space, characters, led, starts, ends, text, textUpto}
 use Rattle.text.specs.Code.Scan.{rest}
 use Rattle.cells.proofs.Split.{split}
+use Rattle.text.proofs.Laws.{single-no-lead}
 
 -- ---- over characters
 after : (c : Character) (cs : List Character) → allWhole cs && not (ends (c ∷ cs)) ≡ rest (space c) cs
@@ -103,10 +104,10 @@ module _ (s : List ℕ) (i : ℕ) where
     unfolding characters
     character-lead before l = rw (more s i h, l) (led-any (drop (i + 1) s) (getD s i 0) before)
 
-    pub character-single : (before : Bool) → lead (getD s i 0) ≡ false → single (getD s i 0) ≡ true →
+    pub character-single : (before : Bool) → single (getD s i 0) ≡ true →
         rest before (characters (drop i s)) ≡ rest (eqb (getD s i 0) 0x20) (characters (drop (i + 1) s))
     unfolding rest characters
-    character-single before l t = rw (more s i h, l, t)
+    character-single before t = rw (more s i h, single-no-lead (getD s i 0) t, t)
 
     pub character-none : (before : Bool) → lead (getD s i 0) ≡ false → single (getD s i 0) ≡ false → rest before (characters (drop i s)) ≡ false
     unfolding rest characters

@@ -11,21 +11,27 @@ ghost use Rattle.text.specs.Code.Scan.{rest};
 fn single(b: u8) -> bool
     ensures { λ r. ⌜ r ≡ singleOf b ⌝ }
 {
-    (b != b',') & (((0x20 <= b) & (b <= 0x7e)) | ((0xa1 <= b) & (b <= 0xdf)))
+    if b < 0x7f {
+        return (b != b',') & (0x20 <= b);
+    }
+    (0xa1 <= b) & (b <= 0xdf)
 }
 
 // The first byte of a pair.
 fn lead(b: u8) -> bool
     ensures { λ r. ⌜ r ≡ leadOf b ⌝ }
 {
-    ((0x81 <= b) & (b <= 0x9f)) | ((0xe0 <= b) & (b <= 0xef))
+    if b < 0xa0 {
+        return 0x81 <= b;
+    }
+    (0xe0 <= b) & (b <= 0xef)
 }
 
 // The second byte of a pair.
 fn second(b: u8) -> bool
     ensures { λ r. ⌜ r ≡ secondOf b ⌝ }
 {
-    ((0x40 <= b) & (b <= 0x7e)) | ((0x80 <= b) & (b <= 0xfc))
+    (0x40 <= b) & (b <= 0xfc) & (b != 0x7f)
 }
 
 // The pair that is a full-width space.
@@ -45,15 +51,14 @@ fn at_character(s: &[u8], at: usize, space: bool) -> bool
     let mut i = at;
     while i < s.len() {
         let b = s[i];
-        if lead(b) {
-            return at_second(s, i + 1, b);
-        }
-        if single(b) {
-            spaced = b == b' ';
-            i += 1;
-        } else {
+        if !single(b) {
+            if lead(b) {
+                return at_second(s, i + 1, b);
+            }
             return false;
         }
+        spaced = b == b' ';
+        i += 1;
     }
     !spaced
 }

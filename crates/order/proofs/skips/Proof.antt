@@ -1,20 +1,22 @@
--- The loop leaves what is left of the table to search; `Search` has its steps.
-use Prim.Native.Nat.{ℕ, _≤_, _-_}
+-- What has been found, and what is left of the table to search; `Search` has the step.
+-- Assumes nothing.
+use Prim.Native.Nat.{ℕ, _+_, _≤_, _-_}
 use mathlib.Core.Path.{_≡_, _∙_, sym, ap}
+use mathlib.Core.Bool.{Bool, _||_, or-false}
 use native.Mathlib.Omega.{arith}
 use borrow.Author.Needs.{needs}
 use lib.ListN.{drop}
 use Rattle.order.specs.Order.{some, header, directions, drug}
 use Rattle.order.specs.Code.Next.{stops, between, skips}
-use Rattle.order.proofs.Search.{found, step}
+use Rattle.order.proofs.Search.{step}
 use Rattle.order.proofs.skips.Statement.{statement}
 use Rattle.order.proofs.skips.Tie as tie
 
 abbrev Inv-loop : tie.InvT-loop
-Inv-loop last n needed i₀ i = (i ≤ 11) × (some (between last n) (drop i stops) ≡ some (between last n) stops)
+Inv-loop last n needed skipped₀ i₀ skipped i = (i ≤ 11) × (skipped || some (between last n) (drop i stops) ≡ some (between last n) stops)
 
 abbrev μ-loop : tie.MeasureT-loop
-μ-loop last n needed i₀ i = 11 - i
+μ-loop last n needed skipped₀ i₀ skipped i = 11 - i
 
 loop-holds : tie.Need-loop-holds Inv-loop μ-loop
 loop-holds c = search needs
@@ -28,13 +30,6 @@ array-read-between c = search needs
 between-requires : tie.Need-between-requires Inv-loop μ-loop
 between-requires c κs = search needs
 
-returns : tie.Need-returns Inv-loop μ-loop
-unfolding skips stops header directions drug
-returns c =
-    let l = c .before .before .before .loop in
-    let a = c .before .before .before .before .args in
-    sym (found (between (a .last) (a .n)) stops (l .i) (omega arith) (sym (c .before .between .ensures) ∙ c .if1 .taken)) ∙ l .inv .1
-
 add-i : tie.Need-add-i Inv-loop μ-loop
 add-i c = search needs
 
@@ -44,16 +39,21 @@ loop-less c = search needs
 loop-again : tie.Need-loop-again Inv-loop μ-loop
 unfolding stops header directions drug
 loop-again c =
-    let l = c .before .before .before .loop in
-    let a = c .before .before .before .before .args in
-    (search needs, sym (step (between (a .last) (a .n)) stops (l .i) (omega arith) (sym (c .before .between .ensures) ∙ c .if1 .left)) ∙ l .inv .1)
+    let l = c .before .before .loop in
+    let a = c .before .before .before .args in (
+      search needs,
+      ap (λ (b : Bool). (l .skipped || b) || some (between (a .last) (a .n)) (drop (l .i + 1) stops)) (c .between .ensures)
+          ∙ step (between (a .last) (a .n)) stops (l .i) (l .skipped) (omega arith)
+          ∙ l .inv .1,
+    )
 
-returns-2 : tie.Need-returns-2 Inv-loop μ-loop
+returns : tie.Need-returns Inv-loop μ-loop
 unfolding skips stops header directions drug some
-returns-2 c =
+returns c =
     let l = c .before .loop in
+    let a = c .before .before .args in
     let e : 11 ≡ l .i = omega arith in
-    ap (λ (i : ℕ). some (between (c .before .before .args .last) (c .before .before .args .n)) (drop i stops)) e ∙ l .inv .1
+    sym (or-false (l .skipped)) ∙ ap (λ (i : ℕ). l .skipped || some (between (a .last) (a .n)) (drop i stops)) e ∙ l .inv .1
 
 pub skips-spec : {M : Type 1} → statement M
 skips-spec =
@@ -65,8 +65,7 @@ skips-spec =
     mul-between
     array-read-between
     between-requires
-    returns
     add-i
     loop-less
     loop-again
-    returns-2)
+    returns)

@@ -52,12 +52,12 @@ at-second-below t =
 
 abbrev at-character-claims : ℕ → at-character-lts.Claims
 at-character-claims t = (
+  single-reads.Asked,
+  single-reads.Learnt,
   lead-reads.Asked,
   lead-reads.Learnt,
   at-second-below t,
   at-second.Post,
-  single-reads.Asked,
-  single-reads.Learnt,
 )
 
 abbrev at-second-claims : ℕ → at-second-lts.Claims
@@ -85,6 +85,9 @@ at-character-loop-holds t c = (omega arith, omega arith, refl)
 at-character-shared-slice-read-b : (t : ℕ) → at-character-lts.Need-shared-slice-read-b (at-character-claims t) (at-character-at t) at-character.Post at-character-Inv-loop at-character-μ-loop
 at-character-shared-slice-read-b t c = search needs
 
+at-character-single-requires : (t : ℕ) → at-character-lts.Need-single-requires (at-character-claims t) (at-character-at t) at-character.Post at-character-Inv-loop at-character-μ-loop
+at-character-single-requires t c κs = search needs
+
 at-character-lead-requires : (t : ℕ) → at-character-lts.Need-lead-requires (at-character-claims t) (at-character-at t) at-character.Post at-character-Inv-loop at-character-μ-loop
 at-character-lead-requires t c κs = search needs
 
@@ -93,20 +96,24 @@ at-character-add-at-second t c = search needs
 
 at-character-at-second-requires : (t : ℕ) → at-character-lts.Need-at-second-requires (at-character-claims t) (at-character-at t) at-character.Post at-character-Inv-loop at-character-μ-loop
 at-character-at-second-requires t c κs =
-    let a = c .before .before .before .before .before .before .args in
-    let l = c .before .before .before .before .loop in
+    let a = c .before .before .before .before .before .before .before .before .args in
+    let l = c .before .before .before .before .before .before .loop in
     omega (arith, l .inv .0, l .inv .1)
 
 at-character-returns : (t : ℕ) → at-character-lts.Need-returns (at-character-claims t) (at-character-at t) at-character.Post at-character-Inv-loop at-character-μ-loop
 at-character-returns t c =
-    let a = c .before .before .before .before .before .before .before .args in
-    let l = c .before .before .before .before .before .loop in
+    let a = c .before .before .before .before .before .before .before .before .before .args in
+    let l = c .before .before .before .before .before .before .before .loop in
     c .at-second .ensures
-    ∙ sym (character-lead (a .s .now) (l .i) (omega arith) (l .spaced) (sym (c .before .before .lead .ensures) ∙ c .before .if1 .taken))
+    ∙ sym (character-lead (a .s .now) (l .i) (omega arith) (l .spaced) (sym (c .before .before .lead .ensures) ∙ c .before .if2 .taken))
     ∙ l .inv .2
 
-at-character-single-requires : (t : ℕ) → at-character-lts.Need-single-requires (at-character-claims t) (at-character-at t) at-character.Post at-character-Inv-loop at-character-μ-loop
-at-character-single-requires t c κs = search needs
+at-character-returns-2 : (t : ℕ) → at-character-lts.Need-returns-2 (at-character-claims t) (at-character-at t) at-character.Post at-character-Inv-loop at-character-μ-loop
+at-character-returns-2 t c =
+    let a = c .before .before .before .before .before .before .before .before .args in
+    let l = c .before .before .before .before .before .before .loop in
+    sym (character-none (a .s .now) (l .i) (omega arith) (l .spaced) (sym (c .before .lead .ensures) ∙ c .if2 .left) (sym (c .before .before .before .single .ensures) ∙ not-true _ (c .before .before .if1 .taken)))
+    ∙ l .inv .2
 
 at-character-add-i : (t : ℕ) → at-character-lts.Need-add-i (at-character-claims t) (at-character-at t) at-character.Post at-character-Inv-loop at-character-μ-loop
 at-character-add-i t c = search needs
@@ -116,19 +123,12 @@ at-character-loop-less t c = search needs
 
 at-character-loop-again : (t : ℕ) → at-character-lts.Need-loop-again (at-character-claims t) (at-character-at t) at-character.Post at-character-Inv-loop at-character-μ-loop
 at-character-loop-again t c =
-    let a = c .before .before .before .before .before .before .before .before .args in
-    let l = c .before .before .before .before .before .before .loop in (
+    let a = c .before .before .before .before .before .before .args in
+    let l = c .before .before .before .before .loop in (
       omega (arith, l .inv .0),
       omega arith,
-      sym (character-single (a .s .now) (l .i) (omega arith) (l .spaced) (sym (c .before .before .before .lead .ensures) ∙ c .before .before .if1 .left) (sym (c .before .single .ensures) ∙ c .if2 .taken)) ∙ l .inv .2,
+      sym (character-single (a .s .now) (l .i) (omega arith) (l .spaced) (sym (c .before .single .ensures) ∙ not-false _ (c .if1 .left))) ∙ l .inv .2,
     )
-
-at-character-returns-2 : (t : ℕ) → at-character-lts.Need-returns-2 (at-character-claims t) (at-character-at t) at-character.Post at-character-Inv-loop at-character-μ-loop
-at-character-returns-2 t c =
-    let a = c .before .before .before .before .before .before .before .before .args in
-    let l = c .before .before .before .before .before .before .loop in
-    sym (character-none (a .s .now) (l .i) (omega arith) (l .spaced) (sym (c .before .before .before .lead .ensures) ∙ c .before .before .if1 .left) (sym (c .before .single .ensures) ∙ c .if2 .left))
-    ∙ l .inv .2
 
 at-character-returns-3 : (t : ℕ) → at-character-lts.Need-returns-3 (at-character-claims t) (at-character-at t) at-character.Post at-character-Inv-loop at-character-μ-loop
 at-character-returns-3 t c =
@@ -223,12 +223,12 @@ at-second-returns-4 t c =
 
 pub +at-character+at-second-spec : {M : Type 1} → statement M
 +at-character+at-second-spec = close μ-at-character μ-at-second (λ t. at-character-lts.spec (
+  single-reads.Asked,
+  single-reads.Learnt,
   lead-reads.Asked,
   lead-reads.Learnt,
   at-second-below t,
   at-second.Post,
-  single-reads.Asked,
-  single-reads.Learnt,
 )
     (at-character-at t)
     at-character.Post
@@ -236,15 +236,15 @@ pub +at-character+at-second-spec : {M : Type 1} → statement M
     at-character-μ-loop
     (at-character-loop-holds t)
     (at-character-shared-slice-read-b t)
+    (at-character-single-requires t)
     (at-character-lead-requires t)
     (at-character-add-at-second t)
     (at-character-at-second-requires t)
     (at-character-returns t)
-    (at-character-single-requires t)
+    (at-character-returns-2 t)
     (at-character-add-i t)
     (at-character-loop-less t)
     (at-character-loop-again t)
-    (at-character-returns-2 t)
     (at-character-returns-3 t))
     λ t. at-second-lts.spec (
       second-reads.Asked,
