@@ -2,11 +2,10 @@
 use cells::Fault;
 ghost use mathlib.Core.Path.{_≡_};
 ghost use mathlib.Core.Bool.{true};
-ghost use Prim.Native.Nat.{_+_, _≤_};
-ghost use lib.ListN.{length, drop};
+ghost use Prim.Native.Nat.{_+_};
+ghost use lib.ListN.{length};
 ghost use Rattle.cells.specs.Test.{fault};
 ghost use Rattle.line.specs.Frame.{plain as plainOf, inLine, next as nextOf, frameFault};
-ghost use Rattle.line.specs.Code.Past.{plains, past as pastOf};
 ghost use Rattle.line.specs.Code.Pairs.{mayFollow};
 ghost use Rattle.line.specs.Fields.{ends as endsOf, fieldEnd};
 
@@ -63,33 +62,6 @@ fn next(state: u8, b: u8) -> u8
     WRONG
 }
 
-// The first byte from a place on that may not stand in a line, or the end.
-fn plain_end(s: &[u8], at: usize) -> usize
-    requires { ⌜ at ≤ length (now s) ⌝ }
-    ensures { λ r. ⌜ r ≡ at + plains (drop at (now (s .entry))) ⌝ }
-{
-    let mut i = at;
-    while i < s.len() {
-        if plain(s[i]) {
-            i += 1;
-        } else {
-            return i;
-        }
-    }
-    i
-}
-
-// Where to go on: within a line, past the bytes that leave it one.
-fn past(s: &[u8], state: u8, at: usize) -> usize
-    requires { ⌜ at ≤ length (now s) ⌝ }
-    ensures { λ r. ⌜ r ≡ pastOf (now (s .entry)) state at ⌝ }
-{
-    if state == LINE {
-        return plain_end(s, at);
-    }
-    at
-}
-
 // May b stand right after a in a well framed file? An LF stands after each CR and nowhere else, 1Ah after an LF only, and nothing after 1Ah.
 fn may_follow(a: u8, b: u8) -> bool
     ensures { λ r. ⌜ r ≡ mayFollow a b ⌝ }
@@ -118,15 +90,9 @@ fn framed(s: &[u8]) -> bool
 }
 
 // The first byte that no well framed file has there: 21 at its offset, or at the end; 0 where the file is well framed.
-pub fn frame_fault(s: &[u8]) -> Fault
+fn find_fault(s: &[u8]) -> Fault
     ensures { λ r. ⌜ r ≡ frameFault (now (s .entry)) ⌝ }
 {
-    if framed(s) {
-        return Fault {
-            number: 0,
-            place: 0,
-        };
-    }
     let mut state = LINE;
     let mut i: usize = 0;
     while i < s.len() {
@@ -137,7 +103,7 @@ pub fn frame_fault(s: &[u8]) -> Fault
                 place: i,
             };
         }
-        i = past(s, state, i + 1);
+        i += 1;
     }
     if state == ALL {
         return Fault {
@@ -151,11 +117,27 @@ pub fn frame_fault(s: &[u8]) -> Fault
     }
 }
 
+// The fault of a file's frame; only a file that has one is read for it byte by byte.
+pub fn frame_fault(s: &[u8]) -> Fault
+    ensures { λ r. ⌜ r ≡ frameFault (now (s .entry)) ⌝ }
+{
+    if framed(s) {
+        return Fault {
+            number: 0,
+            place: 0,
+        };
+    }
+    find_fault(s)
+}
+
 // The comma after a field, or the CR after the last.
 fn ends(b: u8) -> bool
     ensures { λ r. ⌜ r ≡ endsOf b ⌝ }
 {
-    (b == b',') | (b == b'\r')
+    if b <= b',' {
+        return (b == b',') | (b == b'\r'); // most bytes of a field are above both
+    }
+    false
 }
 
 // The offset of the first comma or CR from an offset on, or the length.
