@@ -5,17 +5,19 @@ use counter::SupplementSerial;
 use date::Made;
 use number::Number;
 use schedule::Schedule;
+ghost use Prim.Native.Nat.{_<_, _≤_};
 ghost use mathlib.Core.Path.{_≡_};
+ghost use mathlib.Core.Bool.{Bool};
 ghost use Rattle.cells.specs.Text.{among};
 ghost use Rattle.cells.specs.Test.{fault};
-ghost use Rattle.number.specs.Number.{readNumber};
 ghost use Rattle.number.specs.Amount.{readAmount};
 ghost use Rattle.date.specs.Date.{readDate};
 ghost use Rattle.usage.specs.Usage.{readUsage};
 ghost use Rattle.supplement.specs.Supplement.{readSupplement};
+ghost use Rattle.supplement.specs.declared.Supplement.{Supplement};
 ghost use Rattle.schedule.specs.Code.Kept.{mayJoin};
-ghost use Rattle.field.specs.Field.{present as presentOf, fits as fitsOf, isDay, isDrugCode, isSite, ordered as orderedOf, refusedWith, readField};
-ghost use Rattle.field.specs.Code.Read.{plainOf, amountValue, numberValue, butFive, valueOf, codedOf, usageFault, supplementFault, codeWrong, fromValue, fromFilled};
+ghost use Rattle.field.specs.Field.{isDay, isDrugCode, isSite, ordered as orderedOf, refusedWith, readField};
+ghost use Rattle.field.specs.Code.Read.{codedOf, usageFault, supplementFault, codeWrong, formedIf, amountField, readFilled};
 
 // Whether a field may be empty.
 pub const FREE: u8 = 0;
@@ -78,38 +80,11 @@ pub struct Field {
     pub amount: u64,
 }
 
-// What a filled field is worth, where it is of its form.
-struct Worth {
-    formed: bool,
-    n: u16,
-    amount: u64,
-}
-
 // What is wrong with a code: 0, 29 with the code's own number and place, or 31.
 struct Verdict {
     number: u8,
     code: u8,
     place: usize,
-}
-
-// May the field be empty, or filled, as it is?
-fn present(r: Rule, f: &[u8]) -> bool
-    ensures { λ t. ⌜ t ≡ presentOf r (now (f .entry)) ⌝ }
-{
-    if f.len() == 0 {
-        return r.need != REQUIRED;
-    }
-    r.need != FORBIDDEN
-}
-
-// A text or a drug code is well formed and within its byte maximum.
-fn fits(r: Rule, f: &[u8]) -> bool
-    ensures { λ t. ⌜ t ≡ fitsOf r (now (f .entry)) ⌝ }
-{
-    if r.form <= DRUG_CODE {
-        return text::is_text(f, r.hi as usize);
-    }
-    true
 }
 
 // A digit or a capital.
@@ -156,78 +131,6 @@ fn is_date(f: &[u8]) -> bool
         Made::Day(_) => true,
         Made::None => false,
     }
-}
-
-// A field that has no number.
-fn plain(formed: bool) -> Worth
-    ensures { λ v. ⌜ v ≡ plainOf formed ⌝ }
-{
-    Worth {
-        formed: formed,
-        n: 0,
-        amount: 0,
-    }
-}
-
-fn amount_value(f: &[u8]) -> Worth
-    ensures { λ v. ⌜ v ≡ amountValue (readAmount (now (f .entry))) ⌝ }
-{
-    match number::read_amount(f) {
-        Number::Is(n) => Worth {
-            formed: true,
-            n: 0,
-            amount: n,
-        },
-        Number::Not => plain(false),
-    }
-}
-
-fn number_value(f: &[u8], lo: u16, hi: u16) -> Worth
-    ensures { λ v. ⌜ v ≡ numberValue (readNumber lo hi (now (f .entry))) ⌝ }
-{
-    match number::read(f, lo, hi) {
-        Number::Is(n) => Worth {
-            formed: true,
-            n: (n % 65536) as u16,
-            amount: 0,
-        },
-        Number::Not => plain(false),
-    }
-}
-
-// "Code kind 1 2 3 4 6 7."
-fn but_five(v: Worth) -> Worth
-    ensures { λ w. ⌜ w ≡ butFive v ⌝ }
-{
-    if v.n == 5 {
-        return plain(false);
-    }
-    v
-}
-
-// What a filled field is worth by its form.
-fn value(r: Rule, f: &[u8]) -> Worth
-    ensures { λ v. ⌜ v ≡ valueOf r (now (f .entry)) ⌝ }
-{
-    if r.form == DRUG_CODE {
-        return plain(is_drug_code(f));
-    }
-    if r.form == DATE {
-        return plain(is_date(f));
-    }
-    if r.form == SITE {
-        return plain(is_site(f));
-    }
-    if r.form <= SUPPLEMENT_CODE {
-        return plain(true);
-    }
-    if r.form == AMOUNT {
-        return amount_value(f);
-    }
-    if r.form == CODE_KIND {
-        return but_five(number_value(f, r.lo, r.hi));
-    }
-    number_value(f, r.lo, r.hi)
 }
 
 // An RP number or a serial is as ordered.
@@ -285,16 +188,14 @@ fn supplement_fault(c: Sofar, f: &[u8]) -> Verdict
     }
 }
 
+// A usage code, or else a supplementary code.
 fn code_fault(c: Sofar, r: Rule, f: &[u8]) -> Verdict
     ensures { λ k. ⌜ k ≡ codeWrong (mayJoin (c .month) (c .schedule)) r (now (f .entry)) ⌝ }
 {
     if r.form == USAGE_CODE {
         return usage_fault(f);
     }
-    if r.form == SUPPLEMENT_CODE {
-        return supplement_fault(c, f);
-    }
-    coded(0, 0, 0)
+    supplement_fault(c, f)
 }
 
 // A refusal with no code's own number.
@@ -310,46 +211,121 @@ fn refused(number: u8) -> Field
     }
 }
 
-// A filled field that is well formed and of its form.
-fn read_value(c: Sofar, r: Rule, f: &[u8], v: Worth) -> Field
-    ensures { λ t. ⌜ t ≡ fromValue (mayJoin (c .month) (c .schedule)) c r (now (f .entry)) v ⌝ }
+// A number: in its range, a code kind not 5, and an RP number or a serial as ordered.
+fn read_number(c: Sofar, r: Rule, f: &[u8]) -> Field
+    requires { ⌜ 7 ≤ r .form ⌝ }
+    ensures { λ t. ⌜ t ≡ readFilled (mayJoin (c .month) (c .schedule)) c r (now (f .entry)) ⌝ }
 {
-    if !ordered(c, r, v.n) {
-        return refused(30);
+    match number::read(f, r.lo, r.hi) {
+        Number::Is(m) => {
+            let n = (m % 65536) as u16;
+            if (r.form == CODE_KIND) & (n == 5) {
+                return refused(27); // "code kind 1 2 3 4 6 7"
+            }
+            if !ordered(c, r, n) {
+                return refused(30);
+            }
+            Field {
+                number: 0,
+                code: 0,
+                place: 0,
+                n: n,
+                amount: 0,
+            }
+        }
+        Number::Not => refused(27),
+    }
+}
+
+// A field with no number, by whether it is of its form.
+fn formed(ok: bool) -> Field
+    ensures { λ t. ⌜ t ≡ formedIf ok ⌝ }
+{
+    if ok {
+        return refused(0);
+    }
+    refused(27)
+}
+
+// A text or a drug code is well formed and within its byte maximum.
+fn read_text(r: Rule, f: &[u8]) -> Field
+    requires { ⌜ r .form ≤ 1 ⌝ }
+    ensures { λ t. ⌜ ((joins : Supplement → Bool) (c : Sofar) → t ≡ readFilled joins c r (now (f .entry))) ⌝ }
+{
+    if !text::is_text(f, r.hi as usize) {
+        return refused(26);
+    }
+    if r.form == TEXT {
+        return refused(0);
+    }
+    formed(is_drug_code(f))
+}
+
+// An amount, in hundred-thousandths.
+fn read_amount(f: &[u8]) -> Field
+    ensures { λ t. ⌜ t ≡ amountField (readAmount (now (f .entry))) ⌝ }
+{
+    match number::read_amount(f) {
+        Number::Is(n) => Field {
+            number: 0,
+            code: 0,
+            place: 0,
+            n: 0,
+            amount: n,
+        },
+        Number::Not => refused(27),
+    }
+}
+
+// A date, a site, an amount or a code.
+fn read_other(c: Sofar, r: Rule, f: &[u8]) -> Field
+    requires { ⌜ (1 < r .form) × (r .form < 7) ⌝ }
+    ensures { λ t. ⌜ t ≡ readFilled (mayJoin (c .month) (c .schedule)) c r (now (f .entry)) ⌝ }
+{
+    if r.form == AMOUNT {
+        return read_amount(f);
+    }
+    if r.form == DATE {
+        return formed(is_date(f));
+    }
+    if r.form == SITE {
+        return formed(is_site(f));
     }
     let k = code_fault(c, r, f);
     Field {
         number: k.number,
         code: k.code,
         place: k.place,
-        n: v.n,
-        amount: v.amount,
+        n: 0,
+        amount: 0,
     }
 }
 
-// A field that is filled.
+// A field that is filled and may be.
 fn read_filled(c: Sofar, r: Rule, f: &[u8]) -> Field
-    ensures { λ t. ⌜ t ≡ fromFilled (mayJoin (c .month) (c .schedule)) c r (now (f .entry)) ⌝ }
+    ensures { λ t. ⌜ t ≡ readFilled (mayJoin (c .month) (c .schedule)) c r (now (f .entry)) ⌝ }
 {
-    if !fits(r, f) {
-        return refused(26);
+    if NUMBER <= r.form {
+        return read_number(c, r, f);
     }
-    let v = value(r, f);
-    if v.formed {
-        return read_value(c, r, f, v);
+    if r.form <= DRUG_CODE {
+        return read_text(r, f);
     }
-    refused(27)
+    read_other(c, r, f)
 }
 
 // Reads a field by its rule, after what the records before leave.
 pub fn read(c: Sofar, r: Rule, f: &[u8]) -> Field
     ensures { λ t. ⌜ t ≡ readField (mayJoin (c .month) (c .schedule)) c r (now (f .entry)) ⌝ }
 {
-    if !present(r, f) {
-        return refused(28);
-    }
     if f.len() == 0 {
+        if r.need == REQUIRED {
+            return refused(28);
+        }
         return refused(0); // nothing is wrong with it, and it has no number
+    }
+    if r.need == FORBIDDEN {
+        return refused(28);
     }
     read_filled(c, r, f)
 }

@@ -4,7 +4,8 @@ use Prim.Native.Nat.{ℕ, zero, suc, _+_, _-_, _*_, _^_, _<_, _≤_}
 use mathlib.Core.Path.{_≡_, refl}
 use mathlib.Core.Bool.{true}
 use mathlib.Core.List.{List, [], _∷_, _++_}
-use native.Mathlib.Nat.{pow-suc, one-le-pow, mul-le-mul-right, le-mul-of-pos-right}
+use native.Mathlib.Nat.{lt-of-lt-of-le, pow-suc, one-le-pow, pow-le-pow-right, mul-le-mul-right, le-mul-of-pos-right}
+use native.Mathlib.Numerals.{add-one}
 use native.Mathlib.Omega.{arith}
 use borrow.Author.Tests.{leb-true}
 use lib.ListN.{length, replicate, length-append, length-replicate}
@@ -19,6 +20,14 @@ figure-range c h = let k = and-parts _ _ h in (leb-true 48 c (k .0), leb-true c 
 pub figures-parts : (c : ℕ) (s : List ℕ) → figures (c ∷ s) ≡ true → (48 ≤ c) × (c ≤ 57) × (figures s ≡ true)
 unfolding figures
 figures-parts c s h = let k = and-parts _ _ h in let r = figure-range c (k .0) in (r .0, r .1, k .1)
+
+-- i digits, and one more
+pub one-more : (m i c : ℕ) → m < 10 ^ i → c ≤ 57 → m * 10 + (c - 48) < 10 ^ (i + 1)
+one-more m i c h l = rw (add-one, pow-suc) (omega arith)
+
+-- and at most k of them
+pub at-most : (k m i : ℕ) → m < 10 ^ i → i ≤ k → m < 10 ^ k
+at-most k m i h l = lt-of-lt-of-le h (pow-le-pow-right (omega arith) l)
 
 pub value-append : (n : ℕ) (a b : List ℕ) → value n (a ++ b) ≡ value (value n a) b
 unfolding value

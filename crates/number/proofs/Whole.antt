@@ -2,7 +2,7 @@
 -- Assumes nothing.
 use Prim.Native.Nat.{ℕ, suc, _+_, _-_, _*_, _^_, _<_, _≤_}
 use mathlib.Core.Path.{_≡_, refl, _∙_, sym, ap}
-use mathlib.Core.Bool.{true, false, not, _&&_, _||_, and-false}
+use mathlib.Core.Bool.{Bool, true, false, not, _&&_, _||_, and-false}
 use mathlib.Core.List.{List, [], _∷_}
 use native.Mathlib.Omega.{arith}
 use borrow.Author.Tests.{le-leb, lt-leb, leb-true, ne-eqb, eqb-false, not-true}
@@ -12,12 +12,22 @@ use lib.Seq.{take-all, length-take-le}
 use Rattle.cells.proofs.Alike.{and-parts}
 use Rattle.number.specs.Number.{figures, value, shortest, readNumber}
 use Rattle.number.specs.Amount.{before, after, pointed, fraction, amount, hundredThousandths, readAmount}
-use Rattle.number.specs.Code.Parts.{within, afterPoint, withFraction}
+use Rattle.number.specs.Code.Parts.{wholeNumber, within, afterPoint, withFraction}
 use Rattle.number.specs.declared.Number.the-variants.{Is, Not}
 use Rattle.cells.proofs.Split.{split}
 use Rattle.number.proofs.Sizes.{figures-parts, value-append, least, large, few, padded, filled}
 
 -- ---- numbers
+-- a 0 with more after it
+abbrev pub led : List ℕ → Bool
+led s = eqb (getD s 0 0) 48 && not (eqb (length s) 1)
+
+not-led : (one zero : Bool) → one || not zero ≡ not (zero && not one)
+not-led true true = refl
+not-led true false = refl
+not-led false true = refl
+not-led false false = refl
+
 module _ (s : List ℕ) where
   pub shortest-none : length s ≡ 0 → shortest s ≡ false
   unfolding shortest
@@ -26,6 +36,10 @@ module _ (s : List ℕ) where
   pub shortest-some : (length s ≡ 0 → ⊥) → shortest s ≡ figures s && (eqb (length s) 1 || not (eqb (getD s 0 0) 48))
   unfolding shortest
   shortest-some h = rw (le-leb 1 (length s) (omega arith))
+
+  -- not led by 0
+  shortest-by : (length s ≡ 0 → ⊥) → (b : Bool) → led s ≡ b → shortest s ≡ figures s && not b
+  shortest-by h b e = shortest-some h ∙ ap (λ (t : Bool). figures s && t) (not-led (eqb (length s) 1) (eqb (getD s 0 0) 48) ∙ ap not e)
 
   pub shortest-figures : shortest s ≡ true → figures s ≡ true
   unfolding shortest
@@ -48,13 +62,28 @@ many (c ∷ s) h l =
     omega arith
 
 module _ (lo hi : ℕ) (s : List ℕ) where
-  pub number-none : shortest s ≡ false → readNumber lo hi s ≡ Not
+  number-none : shortest s ≡ false → readNumber lo hi s ≡ Not
   unfolding readNumber
   number-none h = rw h
 
-  pub number-some : shortest s ≡ true → readNumber lo hi s ≡ within lo hi (value 0 s)
+  number-some : shortest s ≡ true → readNumber lo hi s ≡ within lo hi (value 0 s)
   unfolding readNumber within
   number-some h = rw h
+
+  pub number-empty : length s ≡ 0 → readNumber lo hi s ≡ Not
+  number-empty h = number-none (shortest-none s h)
+
+  module _ (h : length s ≡ 0 → ⊥) where
+    pub number-led : led s ≡ true → readNumber lo hi s ≡ Not
+    number-led e = number-none (shortest-by s h true e ∙ and-false (figures s))
+
+    -- what is no digit is out of range
+    pub number-whole : hi < 65536 → led s ≡ false → readNumber lo hi s ≡ within lo hi (wholeNumber s)
+    unfolding wholeNumber within
+    number-whole l e =
+        split (figures s)
+        (λ f. rw f (number-some (shortest-by s h false e ∙ rw f)))
+        (λ f. rw (f, lt-leb 100000 hi (omega arith), and-false (leb lo 100000)) (number-none (shortest-by s h false e ∙ rw f)))
 
   -- a number of more than five digits is out of range
   pub number-long : hi < 65536 → 5 < length s → readNumber lo hi s ≡ Not

@@ -5,7 +5,7 @@ ghost use Prim.Native.Nat.{_-_, _^_, _<_, _≤_};
 ghost use lib.ListN.{length, replicate};
 ghost use Rattle.number.specs.Number.{figure as figureOf, figures as figuresOf, value as valueOf, shortest as shortestOf, readNumber};
 ghost use Rattle.number.specs.Amount.{before, fraction as fractionOf, readAmount};
-ghost use Rattle.number.specs.Code.Parts.{within as withinOf, afterPoint, withFraction};
+ghost use Rattle.number.specs.Code.Parts.{wholeNumber, within as withinOf, afterPoint, withFraction};
 
 // A field's value, or none of the form and range asked for.
 pub enum Number {
@@ -91,6 +91,24 @@ fn within(n: u64, lo: u64, hi: u64) -> Number
     Number::Is(n)
 }
 
+// At most five digits as their number; 100000, which is above five digits and above any hi, where a byte is no digit.
+fn whole_number(s: &[u8]) -> u64
+    requires { ⌜ length (now s) ≤ 5 ⌝ }
+    ensures { λ r. ⌜ r ≡ wholeNumber (now (s .entry)) ⌝ }
+{
+    let mut m: u64 = 0;
+    let mut i: usize = 0;
+    while i < s.len() {
+        if figure(s[i]) {
+            m = m * 10 + digit(s[i]);
+            i += 1;
+        } else {
+            return 100000;
+        }
+    }
+    m
+}
+
 // A number from lo to hi. One of more than five digits is above any hi.
 pub fn read(s: &[u8], lo: u16, hi: u16) -> Number
     ensures { λ r. ⌜ r ≡ readNumber lo hi (now (s .entry)) ⌝ }
@@ -98,10 +116,13 @@ pub fn read(s: &[u8], lo: u16, hi: u16) -> Number
     if 5 < s.len() {
         return Number::Not;
     }
-    if shortest(s) {
-        return within(value(s, 0), lo as u64, hi as u64);
+    if s.len() == 0 {
+        return Number::Not;
     }
-    Number::Not
+    if (s[0] == b'0') & (s.len() != 1) {
+        return Number::Not;
+    }
+    within(whole_number(s), lo as u64, hi as u64)
 }
 
 // The place of the first point; the length where there is none.

@@ -1,8 +1,8 @@
 -- By the form.
 -- Assumes nothing.
-use borrow.Author.Needs.{needs}
 use Rattle.cells.proofs.Tests.{tests}
 use Rattle.field.specs.Code.Read.{codeWrong}
+use borrow.Author.Needs.{needs}
 use Rattle.field.proofs.code_fault.Statement.{statement}
 use Rattle.field.proofs.code_fault.Tie as tie
 
@@ -20,20 +20,6 @@ returns-2 : tie.Need-returns-2
 unfolding codeWrong
 returns-2 c = search tests
 
-coded-requires : tie.Need-coded-requires
-coded-requires c κs = search needs
-
-returns-3 : tie.Need-returns-3
-unfolding codeWrong
-returns-3 c = search tests
-
 pub code-fault-spec : {M : Type 1} → statement M
 code-fault-spec =
-    tie.close
-    (tie.spec
-    usage-fault-requires
-    returns
-    supplement-fault-requires
-    returns-2
-    coded-requires
-    returns-3)
+    tie.close (tie.spec usage-fault-requires returns supplement-fault-requires returns-2)

@@ -1,40 +1,47 @@
--- By the length, the form and the range.
+-- By the length, the first digit, and the range.
 -- Assumes nothing.
 use Rattle.number.specs.Code.Parts.{within}
-use mathlib.Core.Path.{_∙_, sym}
+use mathlib.Core.Path.{_∙_, sym, ap}
 use native.Mathlib.Omega.{arith}
 use borrow.Author.Needs.{needs}
-use Rattle.number.proofs.Sizes.{few}
-use Rattle.number.proofs.Whole.{shortest-figures, number-none, number-some, number-long}
+use Rattle.number.proofs.Whole.{number-long, number-empty, number-led, number-whole}
 use Rattle.number.proofs.read.Statement.{statement}
 use Rattle.number.proofs.read.Tie as tie
 
 returns : tie.Need-returns
 returns c =
-    let s = c .before .before in sym (number-long (s .args .lo) (s .args .hi) (s .args .s .now) (omega arith) (omega arith))
+    let a = c .before .before .args in sym (number-long (a .lo) (a .hi) (a .s .now) (omega arith) (omega arith))
 
-shortest-requires : tie.Need-shortest-requires
-shortest-requires c κs = search needs
+returns-2 : tie.Need-returns-2
+returns-2 c = let a = c .before .before .before .args in sym (number-empty (a .lo) (a .hi) (a .s .now) (c .if2 .taken))
 
-value-requires : tie.Need-value-requires
-value-requires c κs =
-    let s = c .before .before .before .before .args .s .now in
-    let f = shortest-figures s (sym (c .before .shortest .ensures) ∙ c .if2 .taken) in
-    (f, omega (arith, few 5 0 s f (omega arith)))
+shared-slice-read-if3 : tie.Need-shared-slice-read-if3
+shared-slice-read-if3 c = search needs
+
+returns-3 : tie.Need-returns-3
+returns-3 c =
+    let a = c .before .before .before .before .before .args in sym (number-led (a .lo) (a .hi) (a .s .now) (c .before .before .if2 .left) (c .if3 .taken))
+
+whole-number-requires : tie.Need-whole-number-requires
+whole-number-requires c κs = search needs
 
 within-requires : tie.Need-within-requires
 within-requires c κs = search needs
 
-returns-2 : tie.Need-returns-2
-returns-2 c =
-    let a = c .before .before .before .before .before .before .args in
-    c .within .ensures ∙ (λ i. within (a .lo) (a .hi) (c .before .value .ensures i)) ∙ sym (number-some (a .lo) (a .hi) (a .s .now) (sym (c .before .before .before .shortest .ensures) ∙ c .before .before .if2 .taken))
-
-returns-3 : tie.Need-returns-3
-returns-3 c =
-    let a = c .before .before .before .before .args in sym (number-none (a .lo) (a .hi) (a .s .now) (sym (c .before .shortest .ensures) ∙ c .if2 .left))
+returns-4 : tie.Need-returns-4
+returns-4 c =
+    let d = c .before .before in
+    let a = d .before .before .before .before .before .args in
+    c .within .ensures ∙ ap (within (a .lo) (a .hi)) (c .before .whole-number .ensures) ∙ sym (number-whole (a .lo) (a .hi) (a .s .now) (d .before .before .if2 .left) (omega arith) (d .if3 .left))
 
 pub read-spec : {M : Type 1} → statement M
 read-spec =
     tie.close
-    (tie.spec returns shortest-requires value-requires within-requires returns-2 returns-3)
+    (tie.spec
+    returns
+    returns-2
+    shared-slice-read-if3
+    returns-3
+    whole-number-requires
+    within-requires
+    returns-4)

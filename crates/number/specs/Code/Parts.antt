@@ -5,10 +5,14 @@ use mathlib.Core.Bool.{cond, _&&_}
 use mathlib.Core.List.{List, _++_}
 use lib.Dec.{leb}
 use lib.ListN.{length, replicate}
-use Rattle.number.specs.Number.{value}
+use Rattle.number.specs.Number.{figures, value}
 use Rattle.number.specs.Amount.{after, pointed, fraction}
 use Rattle.number.specs.declared.Number.{Number}
 use Rattle.number.specs.declared.Number.the-variants.{Is, Not}
+
+-- digits, at most five, as their number; 100000, which no five digits are, where a byte is no digit
+unfoldable pub wholeNumber : List ℕ → ℕ
+wholeNumber s = cond (figures s) (value 0 s) 100000
 
 -- a number in its range
 unfoldable pub within : ℕ → ℕ → ℕ → Number
