@@ -34,9 +34,8 @@ use Rattle.record.specs.declared.Answer.the-variants.{Refused}
 use Rattle.held.specs.Held.{lentText}
 use Rattle.held.proofs.Numbers.{number-value}
 use Rattle.entry.specs.Entry.{own, inLent, bytesOf, cellBytes, inTen, numberIn}
-use Rattle.entry.specs.Code.Judge.{noCell, partAt, tableIn, wrongFrom, wrongTyped, textsWrong, wrongKept}
+use Rattle.entry.specs.Code.Judge.{noCell, partAt, tableIn, wrongFrom, wrongTyped, textsWrong, wrongIn}
 use Rattle.entry.specs.declared.Cell.{Cell}
-use Rattle.entry.specs.declared.Parts.{Parts}
 
 -- A part of none has no bytes.
 no-bytes : (lent : List ℕ) → cellBytes lent noCell ≡ []
@@ -153,6 +152,13 @@ module _ (joins : Supplement → Bool) (c : Sofar) where
       (λ e. same _ (eqb-true _ _ (every (λ m. eqb (recordNumber (printNumber m ∷ [])) m) records reads-known n e)))
       (λ e. reads n fs (λ r. same _ r) (λ r. ap (λ (k : ℕ). recordWrong k fs) r ∙ unknown 0 fs no-0 ∙ sym (unknown n fs e)))
 
+  -- So it does of parts in which the same is wrong as in the fields.
+  judged : (lent : List ℕ) (at n : ℕ) (cs : List Cell) (fs : List (List ℕ)) →
+      cond (typed n) (wrongTyped joins c lent n cs) (textsWrong joins c (split (partAt lent cs 1))) ≡ rowWrong n fs →
+      wrongIn joins c lent n cs ≡ numberIn (readParts joins c at (printNumber n ∷ fs))
+  unfolding wrongIn
+  judged lent at n cs fs e = ap (λ (w : ℕ). cond (eqb (follow (c .last) n) 0) w (follow (c .last) n)) e ∙ sym (by-number at n fs)
+
   -- ---- a typed record
   -- k fields, after i others, whose rules and parts stand in `all` and in `cs` from there on
   wrong-from : (lent : List ℕ) (all : List Rule) (cs : List Cell) (rs : List Rule) (fs : List (List ℕ)) (i : ℕ) → length fs ≡ length rs →
@@ -172,9 +178,6 @@ module _ (joins : Supplement → Bool) (c : Sofar) where
 
   -- parts of which the bytes are a record's number and its fields
   module _ (lent : List ℕ) (n : ℕ) (cs : List Cell) (fs : List (List ℕ)) (h : map (cellBytes lent) cs ≡ printNumber n ∷ fs) where
-    abbrev here : Parts
-    here = record { number = n; count = length cs; each = inTen cs }
-
     part-is : (j : ℕ) → j < length fs → partAt lent (inTen cs) (j + 1) ≡ getD fs j []
     part-is j l =
         let k : length cs ≡ suc (length fs) = sym (length-map cs (cellBytes lent)) ∙ ap length h in
@@ -187,11 +190,11 @@ module _ (joins : Supplement → Bool) (c : Sofar) where
     nth-is k l m = let z : k ≡ k - 1 + 1 = omega arith in ap (partAt lent (inTen cs)) z ∙ part-is (k - 1) (omega arith)
 
     -- What is wrong with a typed record that has as many fields as its table.
-    pub typed-wrong : (at : ℕ) → typed n ≡ true → FitsRow n fs → wrongTyped joins c lent here ≡ numberIn (readParts joins c at (printNumber n ∷ fs))
+    pub typed-wrong : (at : ℕ) → typed n ≡ true → FitsRow n fs → wrongIn joins c lent n (inTen cs) ≡ numberIn (readParts joins c at (printNumber n ∷ fs))
     unfolding wrongTyped rules counted
     typed-wrong at t d =
         let l : length fs ≡ length (rulesOf n fs) = d .count in
-        let table : tableIn lent here ≡ tableOf (rulesOf n fs) =
+        let table : tableIn n lent (inTen cs) ≡ tableOf (rulesOf n fs) =
         λ i. tableOf (rulesFrom n (nth-is (kindField n) (d .kind .0) (d .kind .1) i) (nth-is (codeField n) (d .code .0) (d .code .1) i)) in
         let w : wrongFrom joins c lent (tableOf (rulesOf n fs) .each) (inTen cs) (length (rulesOf n fs)) 0 ≡ firstWrong (rulesOf n fs) fs =
         wrong-from lent (tableOf (rulesOf n fs) .each) (inTen cs) (rulesOf n fs) fs 0 l
@@ -199,9 +202,10 @@ module _ (joins : Supplement → Bool) (c : Sofar) where
         let r : rules n fs ≡ rulesOf n fs = rw t in
         let v : rowWrong n fs ≡ firstWrong (rulesOf n fs) fs =
         rw (r, le-leb 1 (length fs) (omega (arith, d .kind)), eq-eqb (length fs) (length (rulesOf n fs)) l) in
-        ap (λ (x : Rules). cond (eqb (follow (c .last) n) 0) (wrongFrom joins c lent (x .each) (inTen cs) (x .count) 0) (follow (c .last) n)) table
-        ∙ ap (λ (x : ℕ). cond (eqb (follow (c .last) n) 0) x (follow (c .last) n)) (w ∙ sym v)
-        ∙ sym (by-number at n fs)
+        judged lent at n (inTen cs) fs
+        (ap (λ (b : Bool). cond b (wrongTyped joins c lent n (inTen cs)) (textsWrong joins c (split (partAt lent (inTen cs) 1)))) t
+        ∙ ap (λ (x : Rules). wrongFrom joins c lent (x .each) (inTen cs) (x .count) 0) table
+        ∙ w ∙ sym v)
 
   -- ---- a kept record
   texts-wrong : (fs : List (List ℕ)) → textsWrong joins c fs ≡ firstWrong (map (λ f. text free 200) fs) fs
@@ -218,13 +222,14 @@ module _ (joins : Supplement → Bool) (c : Sofar) where
 
   -- What is wrong with a kept record, whose fields are one part.
   pub kept-wrong : (lent : List ℕ) (at n : ℕ) (x : Cell) (fs : List (List ℕ)) → typed n ≡ false → split (cellBytes lent x) ≡ fs →
-      wrongKept joins c lent (record { number = n; count = 2; each = inTen (own (printNumber n) ∷ x ∷ []) }) ≡
-      numberIn (readParts joins c at (printNumber n ∷ fs))
-  unfolding wrongKept
+      wrongIn joins c lent n (inTen (own (printNumber n) ∷ x ∷ [])) ≡ numberIn (readParts joins c at (printNumber n ∷ fs))
   kept-wrong lent at n x fs t e =
+      let cs : List Cell = inTen (own (printNumber n) ∷ x ∷ []) in
       let l : 1 ≤ length fs = rw e at (some-field (cellBytes lent x)) in
-      ap (λ (w : ℕ). cond (eqb (follow (c .last) n) 0) w (follow (c .last) n)) (ap (textsWrong joins c) e ∙ kept-row n fs t l)
-      ∙ sym (by-number at n fs)
+      judged lent at n cs fs
+      (ap (λ (b : Bool). cond b (wrongTyped joins c lent n cs) (textsWrong joins c (split (cellBytes lent x)))) t
+      ∙ ap (textsWrong joins c) e
+      ∙ kept-row n fs t l)
 
   -- ---- refusals
   -- A refusal is told by the record's number after the last one, or by its row.

@@ -23,9 +23,8 @@ use Rattle.record.specs.declared.Record.the-variants.{Issue, Rp, Usage, Supplem
 use Rattle.record.specs.declared.Answer.the-variants.{Refused}
 use Rattle.held.specs.Held.{lentText, lentHeld, print, parts, printRecord}
 use Rattle.held.proofs.Record.{texts}
-use Rattle.entry.specs.Entry.{own, inLent, cellBytes, cells, numberIn, entryOf}
-use Rattle.entry.specs.Code.Judge.{partsOf, wrongTyped, wrongKept, entered}
-use Rattle.entry.specs.declared.Parts.{Parts}
+use Rattle.entry.specs.Entry.{own, inLent, cellBytes, cells, inTen, numberIn, entryOf}
+use Rattle.entry.specs.Code.Judge.{partsOf, numberOf, wrongIn}
 use Rattle.entry.specs.declared.Entry.{Entry}
 use Rattle.entry.proofs.Bridge.{some-field, join-more, FitsRow, typed-wrong, kept-wrong}
 use Rattle.entry.proofs.Bridge as bridge
@@ -77,6 +76,10 @@ few lent (Supply x) = omega arith
 few lent (Drug x) = omega arith
 few lent (KeptRecord x) = omega arith
 
+-- The parts of a record whose kind is known.
+pub known-parts : (lent : List ℕ) {k r : Record} {p : Entry} → r ≡ k → p ≡ partsOf lent k → p ≡ partsOf lent r
+known-parts lent h e = e ∙ ap (partsOf lent) (sym h)
+
 -- ---- what the reader would say
 -- The number of a refusal does not go by the place,
 pub anywhere : (joins : Supplement → Bool) (c : Sofar) (at : ℕ) (ps : List (List ℕ)) → numberIn (readParts joins c at ps) ≡ numberIn (readParts joins c 0 ps)
@@ -97,35 +100,31 @@ fields-of lent (Drug x) t = omega arith
 fields-of lent (KeptRecord x) t = clash t (untyped (x .number))
 
 module _ (joins : Supplement → Bool) (c : Sofar) (lent : List ℕ) where
-  -- What is wrong with the parts of a typed record is what the reader says of its line,
   wrong-typed : (r : Record) → typed (lentHeld lent r .number) ≡ true →
-      wrongTyped joins c lent (partsOf lent r) ≡ numberIn (readParts joins c 0 (parts (lentHeld lent r)))
+      wrongIn joins c lent (lentHeld lent r .number) (inTen (cells lent r)) ≡ numberIn (readParts joins c 0 (parts (lentHeld lent r)))
   wrong-typed r t =
       typed-wrong joins c lent (lentHeld lent r .number) (cells lent r) (map print (lentHeld lent r .values)) (texts-of lent r t) 0 t (fields-of lent r t)
 
-  -- and so is what is wrong with those of a kept one.
-  wrong-kept : (x : Kept) → wrongKept joins c lent (partsOf lent (KeptRecord x)) ≡ numberIn (readParts joins c 0 (parts (lentHeld lent (KeptRecord x))))
+  wrong-kept : (x : Kept) → wrongIn joins c lent (numberOf (KeptRecord x)) (inTen (cells lent (KeptRecord x))) ≡ numberIn (readParts joins c 0 (parts (lentHeld lent (KeptRecord x))))
   wrong-kept x =
       let s : List ℕ = lentText lent (x .fields) in
       kept-wrong joins c lent 0 (lentHeld lent (KeptRecord x) .number) (inLent lent (x .fields)) (map print (lentHeld lent (KeptRecord x) .values))
       (untyped (x .number)) (ap split (lent-bytes lent (x .fields)) ∙ sym (texts (split s)))
 
-  -- A record's parts, judged to be what the reader says of it, are its entry.
-  as-entry : (wrong : Parts → ℕ) (k r : Record) (p : Parts) (e : Entry) → wrong (partsOf lent k) ≡ numberIn (readParts joins c 0 (parts (lentHeld lent k))) →
-      r ≡ k → p ≡ partsOf lent k → e ≡ entered (wrong p) p → e ≡ entryOf joins c lent r
+  -- What is wrong with the parts of a record is what the reader says of its line.
+  wrong-is : (r : Record) → wrongIn joins c lent (numberOf r) (inTen (cells lent r)) ≡ numberIn (readParts joins c 0 (parts (lentHeld lent r)))
+  unfolding typed
+  wrong-is (Issue x) = wrong-typed (Issue x) refl
+  wrong-is (Rp x) = wrong-typed (Rp x) refl
+  wrong-is (Usage x) = wrong-typed (Usage x) refl
+  wrong-is (Supply x) = wrong-typed (Supply x) refl
+  wrong-is (Drug x) = wrong-typed (Drug x) refl
+  wrong-is (KeptRecord x) = wrong-kept x
+
+  -- So a record's parts, with what is wrong with them, are its entry.
+  pub as-entry : (r : Record) (n w : ℕ) (p : Entry) → n ≡ numberOf r → p ≡ partsOf lent r → w ≡ wrongIn joins c lent n (p .each) →
+      record { wrong = w; count = p .count; each = p .each } ≡ entryOf joins c lent r
   unfolding entryOf
-  as-entry wrong k r p e w d m h =
-      h
-      ∙ ap (λ (q : Parts). entered (wrong q) q) m
-      ∙ ap (λ (n : ℕ). entered n (partsOf lent k)) w
-      ∙ ap (entryOf joins c lent) (sym d)
-
--- So are those of a typed record,
-pub typed-entry : (joins : Supplement → Bool) (c : Sofar) (lent : List ℕ) {k r : Record} {p : Parts} {e : Entry} → typed (lentHeld lent k .number) ≡ true →
-    r ≡ k → p ≡ partsOf lent k → e ≡ entered (wrongTyped joins c lent p) p → e ≡ entryOf joins c lent r
-typed-entry joins c lent {k} {r} {p} {e} t = as-entry joins c lent (wrongTyped joins c lent) k r p e (wrong-typed joins c lent k t)
-
--- and those of a kept one.
-pub kept-entry : (joins : Supplement → Bool) (c : Sofar) (lent : List ℕ) {x : Kept} {r : Record} {p : Parts} {e : Entry} →
-    r ≡ KeptRecord x → p ≡ partsOf lent (KeptRecord x) → e ≡ entered (wrongKept joins c lent p) p → e ≡ entryOf joins c lent r
-kept-entry joins c lent {x} {r} {p} {e} = as-entry joins c lent (wrongKept joins c lent) (KeptRecord x) r p e (wrong-kept joins c lent x)
+  as-entry r n w p h q e =
+      let v : w ≡ numberIn (readParts joins c 0 (parts (lentHeld lent r))) = e ∙ (λ i. wrongIn joins c lent (h i) (q i .each)) ∙ wrong-is r in
+      λ i. record { wrong = v i; count = q i .count; each = q i .each }

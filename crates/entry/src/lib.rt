@@ -25,7 +25,7 @@ ghost use Rattle.schedule.specs.Code.Kept.{mayJoin};
 ghost use Rattle.record.specs.declared.Record.the-variants.{Issue, Rp, Usage, Supplement as Supply, Drug, Kept as KeptRecord};
 ghost use Rattle.held.specs.Held.{optional as optionalValue, usageValue, supplementValue, print};
 ghost use Rattle.entry.specs.Entry.{own as ownCell, inLent, bytesOf, cellBytes, entryOf};
-ghost use Rattle.entry.specs.Code.Judge.{partsOf, keptNumber, tableBy, tableIn, commaFrom, wrongFrom, wrongTyped, textsWrong, wrongKept, entered as enteredOf, inCell};
+ghost use Rattle.entry.specs.Code.Judge.{inCell, partsOf, keptNumber, numberOf, tableBy, wrongTyped, commaFrom, textsWrong, wrongIn};
 
 // A part of the line: characters of its own, or a place in the bytes that are lent beside the record.
 pub struct Cell {
@@ -39,13 +39,6 @@ pub struct Entry {
     pub wrong: u8,
     pub count: usize,
     pub each: [Cell; 10],
-}
-
-// A record's number, and its parts, of which the first is that number.
-struct Parts {
-    number: u16,
-    count: usize,
-    each: [Cell; 10],
 }
 
 // ---- the parts
@@ -134,12 +127,12 @@ fn supplement_code(code: SupplementCode) -> Cell
     }
 }
 
-fn parts_51(x: Record51, lent: &[u8]) -> Parts
+fn parts_51(x: Record51, lent: &[u8]) -> Entry
     ensures { λ p. ⌜ p ≡ partsOf (now (lent .entry)) (Issue x) ⌝ }
 {
     let unused = empty();
-    Parts {
-        number: 51,
+    Entry {
+        wrong: 0,
         count: 2,
         each: [
             number(51),
@@ -156,12 +149,12 @@ fn parts_51(x: Record51, lent: &[u8]) -> Parts
     }
 }
 
-fn parts_101(x: Record101, lent: &[u8]) -> Parts
+fn parts_101(x: Record101, lent: &[u8]) -> Entry
     ensures { λ p. ⌜ p ≡ partsOf (now (lent .entry)) (Rp x) ⌝ }
 {
     let unused = empty();
-    Parts {
-        number: 101,
+    Entry {
+        wrong: 0,
         count: 5,
         each: [
             number(101),
@@ -178,13 +171,13 @@ fn parts_101(x: Record101, lent: &[u8]) -> Parts
     }
 }
 
-fn parts_111(x: Record111, lent: &[u8]) -> Parts
+fn parts_111(x: Record111, lent: &[u8]) -> Entry
     ensures { λ p. ⌜ p ≡ partsOf (now (lent .entry)) (Usage x) ⌝ }
 {
     let unused = empty();
     let code = x.code;
-    Parts {
-        number: 111,
+    Entry {
+        wrong: 0,
         count: 6,
         each: [
             number(111),
@@ -201,13 +194,13 @@ fn parts_111(x: Record111, lent: &[u8]) -> Parts
     }
 }
 
-fn parts_181(x: Record181, lent: &[u8]) -> Parts
+fn parts_181(x: Record181, lent: &[u8]) -> Entry
     ensures { λ p. ⌜ p ≡ partsOf (now (lent .entry)) (Supply x) ⌝ }
 {
     let unused = empty();
     let code = x.code;
-    Parts {
-        number: 181,
+    Entry {
+        wrong: 0,
         count: 7,
         each: [
             number(181),
@@ -224,11 +217,11 @@ fn parts_181(x: Record181, lent: &[u8]) -> Parts
     }
 }
 
-fn parts_201(x: Record201, lent: &[u8]) -> Parts
+fn parts_201(x: Record201, lent: &[u8]) -> Entry
     ensures { λ p. ⌜ p ≡ partsOf (now (lent .entry)) (Drug x) ⌝ }
 {
-    Parts {
-        number: 201,
+    Entry {
+        wrong: 0,
         count: 10,
         each: [
             number(201),
@@ -256,13 +249,13 @@ fn kept_number(n: u16) -> u16
 }
 
 // Its fields are one part, with the commas between them.
-fn parts_kept(x: Kept, lent: &[u8]) -> Parts
+fn parts_kept(x: Kept, lent: &[u8]) -> Entry
     ensures { λ p. ⌜ p ≡ partsOf (now (lent .entry)) (KeptRecord x) ⌝ }
 {
     let unused = empty();
     let n = kept_number(x.number);
-    Parts {
-        number: n,
+    Entry {
+        wrong: 0,
         count: 2,
         each: [
             number(n),
@@ -276,6 +269,33 @@ fn parts_kept(x: Kept, lent: &[u8]) -> Parts
             unused,
             unused,
         ],
+    }
+}
+
+// The parts of a record's line, of which nothing is said yet.
+fn parts(r: Record, lent: &[u8]) -> Entry
+    ensures { λ p. ⌜ p ≡ partsOf (now (lent .entry)) r ⌝ }
+{
+    match r {
+        Record::Issue(x) => parts_51(x, lent),
+        Record::Rp(x) => parts_101(x, lent),
+        Record::Usage(x) => parts_111(x, lent),
+        Record::Supplement(x) => parts_181(x, lent),
+        Record::Drug(x) => parts_201(x, lent),
+        Record::Kept(x) => parts_kept(x, lent),
+    }
+}
+
+fn number_of(r: Record) -> u16
+    ensures { λ n. ⌜ n ≡ numberOf r ⌝ }
+{
+    match r {
+        Record::Issue(_) => 51,
+        Record::Rp(_) => 101,
+        Record::Usage(_) => 111,
+        Record::Supplement(_) => 181,
+        Record::Drug(_) => 201,
+        Record::Kept(x) => kept_number(x.number),
     }
 }
 
@@ -324,42 +344,23 @@ fn rules_by(n: u16, kind: Cell, code: Cell, lent: &[u8]) -> Rules
     )
 }
 
-fn rules(p: Parts, lent: &[u8]) -> Rules
-    ensures { λ t. ⌜ t ≡ tableIn (now (lent .entry)) p ⌝ }
+// A typed record, which has as many fields as its table: the first wrong field, 0 where there is none.
+fn wrong_field(c: Sofar, n: u16, e: Entry, lent: &[u8]) -> u8
+    ensures { λ w. ⌜ w ≡ wrongTyped (mayJoin (c .month) (c .schedule)) c (now (lent .entry)) n (e .each) ⌝ }
 {
-    let n = p.number;
-    let each = p.each;
-    rules_by(n, each[row::kind_field(n)], each[row::code_field(n)], lent)
-}
-
-// The first wrong field, 0 where there is none.
-fn wrong_field(c: Sofar, t: Rules, each: [Cell; 10], lent: &[u8]) -> u8
-    requires { ⌜ t .count ≤ 9 ⌝ }
-    ensures { λ n. ⌜ n ≡ wrongFrom (mayJoin (c .month) (c .schedule)) c (now (lent .entry)) (t .each) each (t .count) 0 ⌝ }
-{
-    let rules = t.each;
-    let count = t.count;
+    let kind = row::kind_field(n);
+    let code = row::code_field(n);
+    let rules = rules_by(n, e.each[kind], e.each[code], lent);
+    let count = rules.count;
     let mut i: usize = 0;
     while i < count {
-        let n = wrong_part(c, rules[i], each[i + 1], lent);
-        if n != 0 {
-            return n;
+        let w = wrong_part(c, rules.each[i], e.each[i + 1], lent);
+        if w != 0 {
+            return w;
         }
         i += 1;
     }
     0
-}
-
-// A typed record, which has as many fields as its table.
-fn wrong_typed(c: Sofar, p: Parts, lent: &[u8]) -> u8
-    ensures { λ n. ⌜ n ≡ wrongTyped (mayJoin (c .month) (c .schedule)) c (now (lent .entry)) p ⌝ }
-{
-    let verdict = order::follow(c.last, p.number);
-    if verdict != 0 {
-        return verdict;
-    }
-    let each = p.each;
-    wrong_field(c, rules(p, lent), each, lent)
 }
 
 // The next comma from a place on, or the end.
@@ -403,50 +404,26 @@ fn wrong_texts(c: Sofar, x: Cell, lent: &[u8]) -> u8
     wrong_text(c, bytes(x, lent, &own))
 }
 
-fn wrong_kept(c: Sofar, p: Parts, lent: &[u8]) -> u8
-    ensures { λ n. ⌜ n ≡ wrongKept (mayJoin (c .month) (c .schedule)) c (now (lent .entry)) p ⌝ }
+// What is wrong with a record, by its number and its parts.
+fn wrong(c: Sofar, n: u16, e: Entry, lent: &[u8]) -> u8
+    ensures { λ w. ⌜ w ≡ wrongIn (mayJoin (c .month) (c .schedule)) c (now (lent .entry)) n (e .each) ⌝ }
 {
-    let verdict = order::follow(c.last, p.number);
+    let verdict = order::follow(c.last, n);
     if verdict != 0 {
         return verdict;
     }
-    let each = p.each;
-    wrong_texts(c, each[1], lent)
-}
-
-fn entered(wrong: u8, p: Parts) -> Entry
-    ensures { λ e. ⌜ e ≡ enteredOf wrong p ⌝ }
-{
-    let each = p.each;
-    Entry {
-        wrong: wrong,
-        count: p.count,
-        each: each,
+    if row::typed(n) {
+        return wrong_field(c, n, e, lent);
     }
-}
-
-fn typed(c: Sofar, p: Parts, lent: &[u8]) -> Entry
-    ensures { λ e. ⌜ e ≡ enteredOf (wrongTyped (mayJoin (c .month) (c .schedule)) c (now (lent .entry)) p) p ⌝ }
-{
-    entered(wrong_typed(c, p, lent), p)
-}
-
-fn kept(c: Sofar, p: Parts, lent: &[u8]) -> Entry
-    ensures { λ e. ⌜ e ≡ enteredOf (wrongKept (mayJoin (c .month) (c .schedule)) c (now (lent .entry)) p) p ⌝ }
-{
-    entered(wrong_kept(c, p, lent), p)
+    wrong_texts(c, e.each[1], lent)
 }
 
 // A record, whose texts lie in lent bytes, after what the records before leave.
 pub fn of(c: Sofar, r: Record, lent: &[u8]) -> Entry
     ensures { λ e. ⌜ e ≡ entryOf (mayJoin (c .month) (c .schedule)) c (now (lent .entry)) r ⌝ }
 {
-    match r {
-        Record::Issue(x) => typed(c, parts_51(x, lent), lent),
-        Record::Rp(x) => typed(c, parts_101(x, lent), lent),
-        Record::Usage(x) => typed(c, parts_111(x, lent), lent),
-        Record::Supplement(x) => typed(c, parts_181(x, lent), lent),
-        Record::Drug(x) => typed(c, parts_201(x, lent), lent),
-        Record::Kept(x) => kept(c, parts_kept(x, lent), lent),
-    }
+    let mut e = parts(r, lent);
+    let w = wrong(c, number_of(r), e, lent);
+    e.wrong = w;
+    e
 }

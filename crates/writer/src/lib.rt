@@ -77,12 +77,11 @@ fn fits(e: Entry, lent: &[u8], room: usize) -> bool
     requires { ⌜ e .count ≤ 10 ⌝ }
     ensures { λ r. ⌜ r ≡ fitsFrom (now (lent .entry)) (e .each) (e .count) 0 room ⌝ }
 {
-    let each = e.each;
     let count = e.count;
     let mut left = room;
     let mut i: usize = 0;
     while i < count {
-        let n = width(each[i], lent);
+        let n = width(e.each[i], lent);
         if left <= n {
             return false;
         }
@@ -130,12 +129,11 @@ fn put_line(out: &mut [u8], at: usize, e: Entry, lent: &[u8]) -> usize
     requires { ⌜ (e .count ≤ 10) × (at + length (lineOf (now lent) e) ≤ length (now out)) ⌝ }
     ensures { λ r. ⌜ (now (out .exit) ≡ sets (now (out .entry)) at (lineOf (now (lent .entry)) e)) × (r ≡ at + length (lineOf (now (lent .entry)) e)) ⌝ }
 {
-    let each = e.each;
     let count = e.count;
     let mut to = at;
     let mut i: usize = 0;
     while i < count {
-        to = put_part(out, to, each[i], lent);
+        to = put_part(out, to, e.each[i], lent);
         out[to] = separator(i, count);
         to += 1;
         i += 1;

@@ -30,7 +30,7 @@ returns c =
     let p4 = c .before .text-in .ensures in
     let p5 = c .number4 .ensures in
     let u = c .before .before .before .before .before .empty .ensures in
-    λ i. record { number = 101; count = 5; each = p1 i ∷ p2 i ∷ p3 i ∷ p4 i ∷ p5 i ∷ u i ∷ u i ∷ u i ∷ u i ∷ u i ∷ [] }
+    λ i. record { wrong = 0; count = 5; each = p1 i ∷ p2 i ∷ p3 i ∷ p4 i ∷ p5 i ∷ u i ∷ u i ∷ u i ∷ u i ∷ u i ∷ [] }
 
 pub parts-101-spec : {M : Type 1} → statement M
 parts-101-spec =

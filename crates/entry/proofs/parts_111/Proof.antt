@@ -34,7 +34,7 @@ returns c =
     let p5 = c .before .text-in .ensures in
     let p6 = c .optional .ensures in
     let u = c .before .before .before .before .before .before .empty .ensures in
-    λ i. record { number = 111; count = 6; each = p1 i ∷ p2 i ∷ p3 i ∷ p4 i ∷ p5 i ∷ p6 i ∷ u i ∷ u i ∷ u i ∷ u i ∷ [] }
+    λ i. record { wrong = 0; count = 6; each = p1 i ∷ p2 i ∷ p3 i ∷ p4 i ∷ p5 i ∷ p6 i ∷ u i ∷ u i ∷ u i ∷ u i ∷ [] }
 
 pub parts-111-spec : {M : Type 1} → statement M
 parts-111-spec =

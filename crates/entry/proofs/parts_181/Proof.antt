@@ -38,7 +38,7 @@ returns c =
     let p6 = c .before .supplement-code .ensures in
     let p7 = c .text-in2 .ensures in
     let u = c .before .before .before .before .before .before .before .empty .ensures in
-    λ i. record { number = 181; count = 7; each = p1 i ∷ p2 i ∷ p3 i ∷ p4 i ∷ p5 i ∷ p6 i ∷ p7 i ∷ u i ∷ u i ∷ u i ∷ [] }
+    λ i. record { wrong = 0; count = 7; each = p1 i ∷ p2 i ∷ p3 i ∷ p4 i ∷ p5 i ∷ p6 i ∷ p7 i ∷ u i ∷ u i ∷ u i ∷ [] }
 
 pub parts-181-spec : {M : Type 1} → statement M
 parts-181-spec =

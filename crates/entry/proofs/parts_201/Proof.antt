@@ -43,7 +43,7 @@ returns : tie.Need-returns
 returns c =
     λ i.
     record {
-      number = 201;
+      wrong = 0;
       count = 10;
       each =
           c .before .before .before .before .before .before .before .before .before .before .number .ensures i ∷

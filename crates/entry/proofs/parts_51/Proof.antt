@@ -23,7 +23,7 @@ returns c =
     let p1 = c .before .before .number .ensures in
     let p2 = c .own .ensures ∙ (λ j. inCell (c .before .day .ensures j)) in
     let u = c .before .before .before .empty .ensures in
-    λ i. record { number = 51; count = 2; each = p1 i ∷ p2 i ∷ u i ∷ u i ∷ u i ∷ u i ∷ u i ∷ u i ∷ u i ∷ u i ∷ [] }
+    λ i. record { wrong = 0; count = 2; each = p1 i ∷ p2 i ∷ u i ∷ u i ∷ u i ∷ u i ∷ u i ∷ u i ∷ u i ∷ u i ∷ [] }
 
 pub parts-51-spec : {M : Type 1} → statement M
 parts-51-spec =

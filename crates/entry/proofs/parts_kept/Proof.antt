@@ -26,7 +26,7 @@ unfolding keptNumber
 returns c =
     λ i.
     record {
-      number = c .before .before .kept-number .ensures i;
+      wrong = 0;
       count = 2;
       each =
           (c .before .number .ensures ∙ ap (λ (n : ℕ). own (printNumber n)) (c .before .before .kept-number .ensures)) i ∷

@@ -18,20 +18,23 @@ use Rattle.record.specs.declared.Record.{Record}
 use Rattle.held.specs.Held.{lentHeld}
 use Rattle.entry.specs.Entry.{cellBytes, cells, inTen}
 use Rattle.entry.specs.declared.Cell.{Cell}
-use Rattle.entry.specs.declared.Parts.{Parts}
 use Rattle.entry.specs.declared.Entry.{Entry}
 
 -- Characters by value as a part.
 abbrev pub inCell : Piece → Cell
 inCell p = record { lent = false; place = record { from = 0; to = 0 }; piece = p }
 
--- The parts of a record, with its number.
-abbrev pub partsOf : List ℕ → Record → Parts
-partsOf lent r = record { number = lentHeld lent r .number; count = length (cells lent r); each = inTen (cells lent r) }
+-- The parts of a record, of which nothing is said yet.
+abbrev pub partsOf : List ℕ → Record → Entry
+partsOf lent r = record { wrong = 0; count = length (cells lent r); each = inTen (cells lent r) }
 
 -- A number that is none of the table's.
 unfoldable pub keptNumber : ℕ → ℕ
 keptNumber n = cond (typed n) 0 n
+
+-- A record's number, whatever bytes its texts lie in.
+abbrev pub numberOf : Record → ℕ
+numberOf r = lentHeld [] r .number
 
 -- A part of none.
 abbrev pub noCell : Cell
@@ -46,8 +49,8 @@ abbrev pub tableBy : ℕ → List ℕ → Cell → Cell → Rules
 tableBy n lent kind code = tableOf (rulesFrom n (cellBytes lent kind) (cellBytes lent code))
 
 -- The rules of a typed record's parts.
-abbrev pub tableIn : List ℕ → Parts → Rules
-tableIn lent p = tableBy (p .number) lent (getD (p .each) (kindField (p .number)) noCell) (getD (p .each) (codeField (p .number)) noCell)
+abbrev pub tableIn : ℕ → List ℕ → List Cell → Rules
+tableIn n lent cs = tableBy n lent (getD cs (kindField n) noCell) (getD cs (codeField n) noCell)
 
 -- What is wrong with the field with i before it.
 abbrev pub wrongAt : (Supplement → Bool) → Sofar → List ℕ → List Rule → List Cell → ℕ → ℕ
@@ -58,11 +61,9 @@ unfoldable pub wrongFrom : (Supplement → Bool) → Sofar → List ℕ → List
 wrongFrom joins c lent rs cs zero i = 0
 wrongFrom joins c lent rs cs (suc k) i = cond (eqb (wrongAt joins c lent rs cs i) 0) (wrongFrom joins c lent rs cs k (i + 1)) (wrongAt joins c lent rs cs i)
 
--- What is wrong with a typed record.
-unfoldable pub wrongTyped : (Supplement → Bool) → Sofar → List ℕ → Parts → ℕ
-wrongTyped joins c lent p =
-    cond (eqb (follow (c .last) (p .number)) 0) (wrongFrom joins c lent (tableIn lent p .each) (p .each) (tableIn lent p .count) 0)
-    (follow (c .last) (p .number))
+-- What is wrong with the fields of a typed record.
+unfoldable pub wrongTyped : (Supplement → Bool) → Sofar → List ℕ → ℕ → List Cell → ℕ
+wrongTyped joins c lent n cs = wrongFrom joins c lent (tableIn n lent cs .each) cs (tableIn n lent cs .count) 0
 
 -- The bytes up to the first comma,
 unfoldable pub upto : List ℕ → List ℕ
@@ -78,11 +79,8 @@ unfoldable pub textsWrong : (Supplement → Bool) → Sofar → List (List ℕ) 
 textsWrong joins c [] = 0
 textsWrong joins c (f ∷ fs) = cond (eqb (readField joins c keptRule f .number) 0) (textsWrong joins c fs) (readField joins c keptRule f .number)
 
--- What is wrong with a kept record.
-unfoldable pub wrongKept : (Supplement → Bool) → Sofar → List ℕ → Parts → ℕ
-wrongKept joins c lent p =
-    cond (eqb (follow (c .last) (p .number)) 0) (textsWrong joins c (split (partAt lent (p .each) 1))) (follow (c .last) (p .number))
-
--- Parts that were judged.
-abbrev pub entered : ℕ → Parts → Entry
-entered wrong p = record { wrong = wrong; count = p .count; each = p .each }
+-- What is wrong with a record, by its number and its parts.
+unfoldable pub wrongIn : (Supplement → Bool) → Sofar → List ℕ → ℕ → List Cell → ℕ
+wrongIn joins c lent n cs =
+    cond (eqb (follow (c .last) n) 0) (cond (typed n) (wrongTyped joins c lent n cs) (textsWrong joins c (split (partAt lent cs 1))))
+    (follow (c .last) n)

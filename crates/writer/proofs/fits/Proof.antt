@@ -10,11 +10,11 @@ use Rattle.writer.proofs.fits.Statement.{statement}
 use Rattle.writer.proofs.fits.Tie as tie
 
 abbrev Inv-loop : tie.InvT-loop
-Inv-loop lent room each count left₀ i₀ left i =
-    (i ≤ count) × (fitsFrom lent each (count - i) i left ≡ fitsFrom lent each count 0 room)
+Inv-loop lent room e count left₀ i₀ left i =
+    (i ≤ count) × (fitsFrom lent (e .each) (count - i) i left ≡ fitsFrom lent (e .each) count 0 room)
 
 abbrev μ-loop : tie.MeasureT-loop
-μ-loop lent room each count left₀ i₀ left i = count - i
+μ-loop lent room e count left₀ i₀ left i = count - i
 
 loop-holds : tie.Need-loop-holds Inv-loop μ-loop
 loop-holds c = (omega arith, rw sub-zero)
@@ -22,18 +22,18 @@ loop-holds c = (omega arith, rw sub-zero)
 mul-width : tie.Need-mul-width Inv-loop μ-loop
 mul-width c = search needs
 
-array-copy-out-width : tie.Need-array-copy-out-width Inv-loop μ-loop
-array-copy-out-width c = omega arith
+element-copy-out-width : tie.Need-element-copy-out-width Inv-loop μ-loop
+element-copy-out-width c = omega arith
 
 width-requires : tie.Need-width-requires Inv-loop μ-loop
 width-requires c κs = search needs
 
 returns : tie.Need-returns Inv-loop μ-loop
 returns c =
-    let a = c .before .before .before .before .before .before .before .args in
+    let a = c .before .before .before .before .before .before .args in
     let l = c .before .before .before .before .loop in
     let w = c .before .width in
-    sym (no-room (a .lent .now) (a .e .each) (a .e .count) (l .i) (omega arith) (l .left) (omega (arith, w .ensures))) ∙ l .inv .1
+    sym (no-room (a .lent .now) (a .t1 .each) (a .t1 .count) (l .i) (omega arith) (l .left) (omega (arith, w .ensures))) ∙ l .inv .1
 
 sub-left : tie.Need-sub-left Inv-loop μ-loop
 sub-left c = omega arith
@@ -49,20 +49,20 @@ loop-less c = search needs
 
 loop-again : tie.Need-loop-again Inv-loop μ-loop
 loop-again c =
-    let a = c .before .before .before .before .before .before .before .args in
+    let a = c .before .before .before .before .before .before .args in
     let l = c .before .before .before .before .loop in
     let w = c .before .width in (
       omega arith,
-      ap (λ (n : ℕ). fitsFrom (a .lent .now) (a .e .each) (a .e .count - (l .i + 1)) (l .i + 1) (l .left - n - 1)) (w .ensures)
-          ∙ sym (has-room (a .lent .now) (a .e .each) (a .e .count) (l .i) (omega arith) (l .left) (omega (arith, w .ensures))) ∙ l .inv .1,
+      ap (λ (n : ℕ). fitsFrom (a .lent .now) (a .t1 .each) (a .t1 .count - (l .i + 1)) (l .i + 1) (l .left - n - 1)) (w .ensures)
+          ∙ sym (has-room (a .lent .now) (a .t1 .each) (a .t1 .count) (l .i) (omega arith) (l .left) (omega (arith, w .ensures))) ∙ l .inv .1,
     )
 
 returns-2 : tie.Need-returns-2 Inv-loop μ-loop
 unfolding fitsFrom
 returns-2 c =
-    let a = c .before .before .before .before .args in
+    let a = c .before .before .before .args in
     let l = c .before .loop in
-    let z = last-byte (a .lent .now) (a .e .each) (a .e .count) (l .i) (omega arith) in
+    let z = last-byte (a .lent .now) (a .t1 .each) (a .t1 .count) (l .i) (omega arith) in
     sym (rw z at (sym (l .inv .1)))
 
 pub fits-spec : {M : Type 1} → statement M
@@ -73,7 +73,7 @@ fits-spec =
     μ-loop
     loop-holds
     mul-width
-    array-copy-out-width
+    element-copy-out-width
     width-requires
     returns
     sub-left

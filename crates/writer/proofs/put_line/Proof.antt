@@ -14,14 +14,14 @@ use Rattle.writer.proofs.put_line.Statement.{statement}
 use Rattle.writer.proofs.put_line.Tie as tie
 
 abbrev Inv-loop : tie.InvT-loop
-Inv-loop out₀ at lent each count to₀ i₀ out to i =
+Inv-loop out₀ at lent e count to₀ i₀ out to i =
     (i ≤ count)
     × (length out ≡ length out₀)
-    × (to + length (lineFrom lent each (count - i) i) ≡ at + length (lineFrom lent each count 0))
-    × (sets out to (lineFrom lent each (count - i) i) ≡ sets out₀ at (lineFrom lent each count 0))
+    × (to + length (lineFrom lent (e .each) (count - i) i) ≡ at + length (lineFrom lent (e .each) count 0))
+    × (sets out to (lineFrom lent (e .each) (count - i) i) ≡ sets out₀ at (lineFrom lent (e .each) count 0))
 
 abbrev μ-loop : tie.MeasureT-loop
-μ-loop out₀ at lent each count to₀ i₀ out to i = count - i
+μ-loop out₀ at lent e count to₀ i₀ out to i = count - i
 
 loop-holds : tie.Need-loop-holds Inv-loop μ-loop
 loop-holds c = (omega arith, refl, rw sub-zero, rw sub-zero)
@@ -29,15 +29,15 @@ loop-holds c = (omega arith, refl, rw sub-zero, rw sub-zero)
 mul-put-part : tie.Need-mul-put-part Inv-loop μ-loop
 mul-put-part c = search needs
 
-array-copy-out-put-part : tie.Need-array-copy-out-put-part Inv-loop μ-loop
-array-copy-out-put-part c = omega arith
+element-copy-out-put-part : tie.Need-element-copy-out-put-part Inv-loop μ-loop
+element-copy-out-put-part c = omega arith
 
 put-part-requires : tie.Need-put-part-requires Inv-loop μ-loop
 put-part-requires c κs =
-    let a = c .before .before .before .before .before .before .before .args in
+    let a = c .before .before .before .before .before .before .args in
     let l = c .before .before .before .loop in
-    let p = c .before .before .before .before .before .before .before .pre in
-    omega (arith, p .1, l .inv .1, l .inv .2, part-size (a .lent .now) (a .e .each) (a .e .count) (l .i) (omega arith))
+    let p = c .before .before .before .before .before .before .pre in
+    omega (arith, p .1, l .inv .1, l .inv .2, part-size (a .lent .now) (a .t3 .each) (a .t3 .count) (l .i) (omega arith))
 
 separator-requires : tie.Need-separator-requires Inv-loop μ-loop
 separator-requires c κs = search needs
@@ -45,21 +45,21 @@ separator-requires c κs = search needs
 slice-write-out : tie.Need-slice-write-out Inv-loop μ-loop
 slice-write-out c =
     let f = c .before .before .before in
-    let a = f .before .before .before .before .before .before .before .before .args in
-    let p = f .before .before .before .before .before .before .before .before .pre in
+    let a = f .before .before .before .before .before .before .before .args in
+    let p = f .before .before .before .before .before .before .before .pre in
     let l = f .before .before .before .before .loop in
     let k = f .put-part in
-    let s = part-size (a .lent .now) (a .e .each) (a .e .count) (l .i) (omega arith) in
+    let s = part-size (a .lent .now) (a .t3 .each) (a .t3 .count) (l .i) (omega arith) in
     omega (arith, p .1, l .inv .1, l .inv .2, s, k .ensures .1, k .kept .0)
 
 add-to : tie.Need-add-to Inv-loop μ-loop
 add-to c =
     let f = c .before .before .before in
-    let a = f .before .before .before .before .before .before .before .before .args in
-    let p = f .before .before .before .before .before .before .before .before .pre in
+    let a = f .before .before .before .before .before .before .before .args in
+    let p = f .before .before .before .before .before .before .before .pre in
     let l = f .before .before .before .before .loop in
     let k = f .put-part in
-    let s = part-size (a .lent .now) (a .e .each) (a .e .count) (l .i) (omega arith) in
+    let s = part-size (a .lent .now) (a .t3 .each) (a .t3 .count) (l .i) (omega arith) in
     omega (arith, p .1, l .inv .1, l .inv .2, s, k .ensures .1, k .kept .0)
 
 add-i : tie.Need-add-i Inv-loop μ-loop
@@ -71,35 +71,35 @@ loop-less c = search needs
 loop-again : tie.Need-loop-again Inv-loop μ-loop
 loop-again c =
     let f = c .before .before .before in
-    let a = f .before .before .before .before .before .before .before .before .args in
-    let p = f .before .before .before .before .before .before .before .before .pre in
+    let a = f .before .before .before .before .before .before .before .args in
+    let p = f .before .before .before .before .before .before .before .pre in
     let l = f .before .before .before .before .loop in
     let k = f .put-part in
-    let s = part-size (a .lent .now) (a .e .each) (a .e .count) (l .i) (omega arith) in
-    let n : ℕ = length (partAt (a .lent .now) (a .e .each) (l .i)) in
-    let rest : List ℕ = lineFrom (a .lent .now) (a .e .each) (a .e .count - (l .i + 1)) (l .i + 1) in (
+    let s = part-size (a .lent .now) (a .t3 .each) (a .t3 .count) (l .i) (omega arith) in
+    let n : ℕ = length (partAt (a .lent .now) (a .t3 .each) (l .i)) in
+    let rest : List ℕ = lineFrom (a .lent .now) (a .t3 .each) (a .t3 .count - (l .i + 1)) (l .i + 1) in (
       omega arith,
       length-set (k .last .0) (k .result) (c .separator .result) ∙ k .kept .0 ∙ l .inv .1,
       omega (arith, l .inv .2, s, k .ensures .1),
       (λ i. sets (set (k .ensures .0 i) (k .ensures .1 i) (c .separator .ensures i)) (k .ensures .1 i + 1) rest)
-          ∙ sym (part-put (a .lent .now) (a .e .each) (a .e .count) (l .i) (omega arith) (l .out) (l .to)) ∙ l .inv .3,
+          ∙ sym (part-put (a .lent .now) (a .t3 .each) (a .t3 .count) (l .i) (omega arith) (l .out) (l .to)) ∙ l .inv .3,
     )
 
 slice-write-out-2 : tie.Need-slice-write-out-2 Inv-loop μ-loop
 slice-write-out-2 c =
-    let a = c .before .before .before .before .before .args in
-    let p = c .before .before .before .before .before .pre in
+    let a = c .before .before .before .before .args in
+    let p = c .before .before .before .before .pre in
     let l = c .before .loop in
-    let z = last-byte (a .lent .now) (a .e .each) (a .e .count) (l .i) (omega arith) in
+    let z = last-byte (a .lent .now) (a .t3 .each) (a .t3 .count) (l .i) (omega arith) in
     let s = ap length z in
     omega (arith, p .1, l .inv .1, l .inv .2, s)
 
 add-result : tie.Need-add-result Inv-loop μ-loop
 add-result c =
-    let a = c .before .before .before .before .before .args in
-    let p = c .before .before .before .before .before .pre in
+    let a = c .before .before .before .before .args in
+    let p = c .before .before .before .before .pre in
     let l = c .before .loop in
-    let z = last-byte (a .lent .now) (a .e .each) (a .e .count) (l .i) (omega arith) in
+    let z = last-byte (a .lent .now) (a .t3 .each) (a .t3 .count) (l .i) (omega arith) in
     let s = ap length z in
     omega (arith, p .1, l .inv .1, l .inv .2, s)
 
@@ -108,10 +108,10 @@ same-length c = let l = c .before .loop in length-set (l .out) (l .to) 10 ∙ l 
 
 returns : tie.Need-returns Inv-loop μ-loop
 returns c =
-    let a = c .before .before .before .before .before .args in
-    let p = c .before .before .before .before .before .pre in
+    let a = c .before .before .before .before .args in
+    let p = c .before .before .before .before .pre in
     let l = c .before .loop in
-    let z = last-byte (a .lent .now) (a .e .each) (a .e .count) (l .i) (omega arith) in
+    let z = last-byte (a .lent .now) (a .t3 .each) (a .t3 .count) (l .i) (omega arith) in
     let s = ap length z in
     (rw z at (l .inv .3), omega (arith, l .inv .2, s))
 
@@ -123,7 +123,7 @@ put-line-spec =
     μ-loop
     loop-holds
     mul-put-part
-    array-copy-out-put-part
+    element-copy-out-put-part
     put-part-requires
     separator-requires
     slice-write-out
