@@ -237,7 +237,7 @@ module _ (s : List ℕ) where
       n : ℕ
       n = t .at + length (join (fieldsAt s (t .at))) + 2
 
-      by : (a : Answer) → readParts joins (t .sofar) (t .at) (fieldsAt s (t .at)) ≡ a → upon t (lineAfter a n .answer) (lineAfter a n .next) .next ≡ Refuses f →
+      by : (a : Answer) → readParts joins (t .sofar) (t .at) (fieldsAt s (t .at)) ≡ a → upon t (lineAfter (t .sofar) a n .answer) (lineAfter (t .sofar) a n .next) .next ≡ Refuses f →
           FileRefusal s f
       by (Took r) e k = absurd (let y : _≡_ {A = ℕ} 0 1 = cc in omega arith)
       by (Refused g) e k =

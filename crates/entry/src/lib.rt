@@ -286,6 +286,7 @@ fn parts(r: Record, lent: &[u8]) -> Entry
     }
 }
 
+// A record's number, by which it is judged.
 fn number_of(r: Record) -> u16
     ensures { λ n. ⌜ n ≡ numberOf r ⌝ }
 {
@@ -344,7 +345,8 @@ fn rules_by(n: u16, kind: Cell, code: Cell, lent: &[u8]) -> Rules
     )
 }
 
-// A typed record, which has as many fields as its table: the first wrong field, 0 where there is none.
+// A typed record, which has as many fields as its table: the first wrong field, 0 where there is none. Each part is read out of the entry: a
+// local for all ten would copy them once more.
 fn wrong_field(c: Sofar, n: u16, e: Entry, lent: &[u8]) -> u8
     ensures { λ w. ⌜ w ≡ wrongTyped (mayJoin (c .month) (c .schedule)) c (now (lent .entry)) n (e .each) ⌝ }
 {

@@ -131,7 +131,7 @@ abbrev Hold : Step → Type 0
 Hold w = (r : Record) → w .next ≡ Hands r → FitsRecord r
 
 -- the answer that a line gives
-line-holds : (t : State) (a : Answer) (n : ℕ) → ((r : Record) → a ≡ Took r → FitsRecord r) → Hold (on t (lineAfter a n .answer) (lineAfter a n .next))
+line-holds : (t : State) (a : Answer) (n : ℕ) → ((r : Record) → a ≡ Took r → FitsRecord r) → Hold (on t (lineAfter (t .sofar) a n .answer) (lineAfter (t .sofar) a n .next))
 line-holds t (Took r) n f q h = let e : r ≡ q = cc in subst FitsRecord e (f r refl)
 line-holds t (Refused g) n f q h = absurd (let z : _≡_ {A = ℕ} 0 1 = cc in omega arith)
 

@@ -53,7 +53,7 @@ module _ (s : List ℕ) (t : State) where
   unfolding nextRecord
   at-close z e = simp (eq-eqb _ _ z, e)
 
-  on-answer : (a : Answer) (n : ℕ) → on t (lineAfter a n .answer) (lineAfter a n .next) ≡ on t a n
+  on-answer : (a : Answer) (n : ℕ) → on t (lineAfter (t .sofar) a n .answer) (lineAfter (t .sofar) a n .next) ≡ on t a n
   on-answer (Took r) n = refl
   on-answer (Refused f) n = refl
 

@@ -14,7 +14,11 @@ use Rattle.record.specs.declared.Record.{Record}
 use Rattle.record.specs.declared.Refusal.{Refusal}
 use Rattle.record.specs.declared.Answer.{Answer}
 use Rattle.record.specs.declared.Answer.the-variants.{Took, Refused as Stops}
-use Rattle.record.specs.Line.{passes}
+use Rattle.record.specs.Line.{readParts, lineAfter, lineAt, passedOf}
+use Rattle.row.specs.Row.{fieldsAt}
+use Rattle.line.specs.Fields.{join}
+use Rattle.record.specs.declared.Line.{Line}
+use Rattle.schedule.specs.Code.Kept.{mayJoin}
 use Rattle.reader.specs.Open.{fileFault}
 use Rattle.reader.specs.File.{File, Ending, whole, stopped, readFile, counted, checkFile, numberOf}
 use Rattle.reader.specs.Reader.{on, openFile, nextRecord, call, endingOf, told}
@@ -23,7 +27,7 @@ use Rattle.reader.specs.declared.Handed.{Handed}
 use Rattle.reader.specs.declared.Handed.the-variants.{Record as Hands, Refused as Refuses, End}
 use Rattle.reader.specs.declared.Step.{Step}
 use Rattle.reader.specs.declared.Gone.the-variants.{On, Refused, End as AtEnd}
-use Rattle.reader.specs.Code.Gone.{gone, goneOf, goneBy}
+use Rattle.reader.specs.Code.Gone.{movesOn, gone, goneOf, goneBy}
 use Rattle.reader.specs.declared.Checked.the-variants.{Records, Refused as Not}
 use Rattle.reader.proofs.Order.{stand}
 use Rattle.reader.proofs.Along.{by-call, rests, Tells, by-rest, from-opening}
@@ -124,10 +128,27 @@ no-record : (e : Ending) (r : Record) → endingOf e ≡ Hands r → ⊥
 no-record whole r h = let z : _≡_ {A = ℕ} 0 1 = cc in omega arith
 no-record (stopped f) r h = let z : _≡_ {A = ℕ} 0 1 = cc in omega arith
 
--- A line that is passed is a call without its record,
-pub gone-by : (t : State) (a : Answer) (next : ℕ) → goneBy (passes (t .sofar) a next) ≡ goneOf (on t a next)
-gone-by t (Took r) next = refl
-gone-by t (Stops f) next = refl
+-- A line leaves what the call does,
+module _ (t : State) where
+  after-line : (a : Answer) (n : ℕ) → let l = lineAfter (t .sofar) a n in movesOn t (l .answer) (l .next) (l .sofar) ≡ on t (l .answer) (l .next)
+  after-line (Took r) n = refl
+  after-line (Stops f) n = refl
+
+  after-passed : (a : Answer) (n : ℕ) → let l = lineAfter (t .sofar) a n in goneBy (passedOf l) ≡ goneOf (on t (l .answer) (l .next))
+  after-passed (Took r) n = refl
+  after-passed (Stops f) n = refl
+
+  abbrev lineOf : List ℕ → Line
+  lineOf s = lineAt (mayJoin (t .sofar .month) (t .sofar .schedule)) (t .sofar) s (t .at)
+
+  pub line-on : (s : List ℕ) → movesOn t (lineOf s .answer) (lineOf s .next) (lineOf s .sofar) ≡ on t (lineOf s .answer) (lineOf s .next)
+  unfolding lineAt
+  line-on s = after-line (readParts (mayJoin (t .sofar .month) (t .sofar .schedule)) (t .sofar) (t .at) (fieldsAt s (t .at))) (t .at + length (join (fieldsAt s (t .at))) + 2)
+
+  -- where it is passed as well,
+  pub line-gone : (s : List ℕ) → goneBy (passedOf (lineOf s)) ≡ goneOf (on t (lineOf s .answer) (lineOf s .next))
+  unfolding lineAt
+  line-gone s = after-passed (readParts (mayJoin (t .sofar .month) (t .sofar .schedule)) (t .sofar) (t .at) (fieldsAt s (t .at))) (t .at + length (join (fieldsAt s (t .at))) + 2)
 
 -- and what it says of the call.
 on-by : {P : Type 0} (h : Handed) (t u : State) → gone h t ≡ On u → ((r : Record) → h ≡ Hands r → t ≡ u → P) → P

@@ -9,7 +9,7 @@ ghost use Rattle.record.specs.Line.{refusal as refusalOf};
 ghost use Rattle.reader.specs.Open.{versionLine};
 ghost use Rattle.reader.specs.File.{checkFile};
 ghost use Rattle.reader.specs.Reader.{opened as openedOf, openFile, refuses, endAt, closing, on, nextRecord};
-ghost use Rattle.reader.specs.Code.Gone.{goneOf, goneBy};
+ghost use Rattle.reader.specs.Code.Gone.{movesOn, goneOf, goneBy};
 
 // Where the reader is in the file, and what the records before leave. A file that was refused on opening keeps its number here, and the offset
 // in `at`.
@@ -119,8 +119,8 @@ fn close(t: State) -> Step
 }
 
 // A record and the state after it, or a refusal and the state as it was.
-fn moved(t: State, answer: Answer, next: usize) -> Step
-    ensures { λ r. ⌜ r ≡ on t answer next ⌝ }
+fn moved(t: State, answer: Answer, next: usize, sofar: Sofar) -> Step
+    ensures { λ r. ⌜ r ≡ movesOn t answer next sofar ⌝ }
 {
     match answer {
         Answer::Took(r) => Step {
@@ -128,7 +128,7 @@ fn moved(t: State, answer: Answer, next: usize) -> Step
             state: State {
                 number: 0,
                 at: next,
-                sofar: record::after(t.sofar, r),
+                sofar: sofar,
             },
         },
         Answer::Refused(f) => Step {
@@ -151,7 +151,7 @@ pub fn next(s: &[u8], t: State) -> Step
     }
     let l = record::read(t.sofar, s, at);
     let answer = l.answer;
-    moved(t, answer, l.next)
+    moved(t, answer, l.next, l.sofar)
 }
 
 // ---- a file checked, with no record made

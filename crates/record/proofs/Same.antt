@@ -29,4 +29,4 @@ module _ (joins joins′ : Supplement → Bool) (same : (x : Supplement) → joi
 
   pub same-line : (c : Sofar) (s : List ℕ) (at : ℕ) → lineAt joins c s at ≡ lineAt joins′ c s at
   unfolding lineAt
-  same-line c s at = ap (λ (a : Answer). lineAfter a (at + length (join (fieldsAt s at)) + 2)) (same-parts c at (fieldsAt s at))
+  same-line c s at = ap (λ (a : Answer). lineAfter c a (at + length (join (fieldsAt s at)) + 2)) (same-parts c at (fieldsAt s at))

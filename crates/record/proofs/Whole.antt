@@ -20,9 +20,8 @@ use Rattle.row.specs.Table.{counted}
 use Rattle.row.specs.Row.{fieldsAt, lineEnds, readRow}
 use Rattle.row.specs.declared.Row.{Row}
 use Rattle.row.proofs.Walk.{outside, first, more, last, more-fit, size, some}
-use Rattle.record.specs.Line.{refusal, fromRow, readFields, numberIn, recordNumber, readParts, lineAt}
+use Rattle.record.specs.Line.{refusal, fromRow, readFields, numberIn, recordNumber, readParts, lineAfter, lineAt}
 use Rattle.record.specs.Code.Built.{refusedLine, fieldsLine, Heads}
-use Rattle.record.specs.declared.Answer.{Answer}
 use Rattle.record.specs.declared.Answer.the-variants.{Took, Refused}
 use Rattle.record.specs.declared.Head.{Head}
 use Rattle.record.proofs.Built.{right-row, built}
@@ -50,7 +49,7 @@ module _ (joins : Supplement → Bool) (c : Sofar) (s : List ℕ) (at : ℕ) whe
   unknown = refl
 
   -- outside the file
-  nowhere : length s < at → refusedLine (refusal 23 at) ≡ lineAt joins c s at
+  nowhere : length s < at → refusedLine c (refusal 23 at) ≡ lineAt joins c s at
   unfolding lineAt
   nowhere h =
       let p : readParts joins c at (fieldsAt s at) ≡ Refused (refusal 23 at) =
@@ -61,7 +60,7 @@ module _ (joins : Supplement → Bool) (c : Sofar) (s : List ℕ) (at : ℕ) whe
     number-is : recordNumber (fieldsAt s at) ≡ n
     number-is = ap (λ (f : List ℕ). numberIn (readNumber 1 999 f)) (first s at h e q) ∙ sym g
 
-    refused-number : (v : ℕ) → v ≡ follow (c .last) n → (v ≡ 0 → ⊥) → refusedLine (refusal v at) ≡ lineAt joins c s at
+    refused-number : (v : ℕ) → v ≡ follow (c .last) n → (v ≡ 0 → ⊥) → refusedLine c (refusal v at) ≡ lineAt joins c s at
     unfolding lineAt
     refused-number v f z = rw (wrong-number (fieldsAt s at) n v number-is f z)
 
@@ -74,7 +73,7 @@ module _ (joins : Supplement → Bool) (c : Sofar) (s : List ℕ) (at : ℕ) whe
           let r : recordNumber (slice at e s ∷ fs) ≡ n = sym g in
           ap (readParts joins c at) p ∙ rw (r, k, ← f, eq-eqb v 0 z)
 
-      no-fields : lineEnds s e ≡ true → refusedLine (refusal 25 at) ≡ lineAt joins c s at
+      no-fields : lineEnds s e ≡ true → refusedLine c (refusal 25 at) ≡ lineAt joins c s at
       unfolding lineAt readRow counted
       no-fields l = rw (by-fields [] (last s at h e q l))
 
@@ -91,7 +90,7 @@ module _ (joins : Supplement → Bool) (c : Sofar) (s : List ℕ) (at : ℕ) whe
           let r = right-row joins c n (e + 1) fs (eqb-true _ _ y) in
           let u : readRow joins c n (e + 1) fs .after + 1 ≡ at + length (join (fieldsAt s at)) + 2 =
           omega (arith, ap (λ (x : Row). x .after) r, ap (λ (x : List (List ℕ)). length (join x)) p, join-more (slice at e s) fs (some s (e + 1) i), size s at h e q) in
-          rw (a, y) (ap₂ (λ (x : Answer) (k : ℕ). record { answer = x; next = k }) (ap Took (built joins c s (e + 1) i n (eqb-true _ _ y))) u))
+          rw (a, y) (ap₂ (lineAfter c) (ap Took (built joins c s (e + 1) i n (eqb-true _ _ y))) u))
           (λ y. rw (a, y))
 
 -- What a line begins with, by what its number is told.
@@ -100,7 +99,7 @@ module _ (last : ℕ) (s : List ℕ) (at : ℕ) where
   head v n from = record { refusal = v; number = n; from = from }
 
   -- a refusal before the fields
-  stopped : (v : ℕ) → (v ≡ 0 → ⊥) → ((joins : Supplement → Bool) (c : Sofar) → c .last ≡ last → refusedLine (refusal v at) ≡ lineAt joins c s at) →
+  stopped : (v : ℕ) → (v ≡ 0 → ⊥) → ((joins : Supplement → Bool) (c : Sofar) → c .last ≡ last → refusedLine c (refusal v at) ≡ lineAt joins c s at) →
       Heads last s at (head v 0 0)
   stopped v z f = record { line = λ joins c y. rw (ne-eqb v 0 z) (f joins c y); inside = λ y. absurd (z y) }
 

@@ -52,19 +52,19 @@ recordNumber parts = numberIn (readNumber 1 999 (getD parts 0 []))
 unfoldable pub readParts : (Supplement → Bool) → Sofar → ℕ → List (List ℕ) → Answer
 readParts joins c at parts = readFields joins c at (recordNumber parts) (at + length (getD parts 0 []) + 1) (drop 1 parts)
 
--- After a line's bytes come CR and LF, then the next line.
-abbrev pub lineAfter : Answer → ℕ → Line
-lineAfter (Took r) next = record { answer = Took r; next = next }
-lineAfter (Refused f) next = record { answer = Refused f; next = 0 }
+-- After a line's bytes come CR and LF, then the next line; it comes after what the line's record leaves.
+abbrev pub lineAfter : Sofar → Answer → ℕ → Line
+lineAfter c (Took r) next = record { answer = Took r; next = next; sofar = after c r }
+lineAfter c (Refused f) next = record { answer = Refused f; next = 0; sofar = c }
 
--- The line at an offset of the file, and where the next one begins.
+-- The line at an offset of the file, where the next one begins, and what it comes after.
 unfoldable pub lineAt : (Supplement → Bool) → Sofar → List ℕ → ℕ → Line
-lineAt joins c s at = lineAfter (readParts joins c at (fieldsAt s at)) (at + length (join (fieldsAt s at)) + 2)
+lineAt joins c s at = lineAfter c (readParts joins c at (fieldsAt s at)) (at + length (join (fieldsAt s at)) + 2)
 
-abbrev pub passes : Sofar → Answer → ℕ → Passed
-passes c (Took r) next = On (record { sofar = after c r; next = next })
-passes c (Refused f) next = Stopped f
+-- A line without its record.
+abbrev pub passes : Answer → ℕ → Sofar → Passed
+passes (Took r) next c = On (record { sofar = c; next = next })
+passes (Refused f) next c = Stopped f
 
--- What a line leaves: its record's, and where the next one begins; or the refusal.
-abbrev pub passedOf : Sofar → Line → Passed
-passedOf c l = passes c (l .answer) (l .next)
+abbrev pub passedOf : Line → Passed
+passedOf l = passes (l .answer) (l .next) (l .sofar)

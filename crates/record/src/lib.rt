@@ -114,10 +114,11 @@ pub enum Answer {
     Refused(Refusal),
 }
 
-// What a line is read as, and where the next one begins; 0 after a refusal.
+// What a line is read as, where the next one begins, and what the records up to it leave; after a refusal 0, and what they left before it.
 pub struct Line {
     pub answer: Answer,
     pub next: usize,
+    pub sofar: Sofar,
 }
 
 // A line that is passed, with no record made of it: what the records up to it leave, and where the next line begins.
@@ -310,12 +311,13 @@ fn refused_fields(at: usize, w: Row) -> Refusal
     }
 }
 
-fn refused_line(f: Refusal) -> Line
-    ensures { λ r. ⌜ r ≡ refusedLine f ⌝ }
+fn refused_line(c: Sofar, f: Refusal) -> Line
+    ensures { λ r. ⌜ r ≡ refusedLine c f ⌝ }
 {
     Line {
         answer: Answer::Refused(f),
         next: 0,
+        sofar: c,
     }
 }
 
@@ -372,7 +374,7 @@ fn read_fields(c: Sofar, s: &[u8], at: usize, n: u16, from: usize) -> Line
 {
     let w = row::read(c, s, n, from);
     if w.number != 0 {
-        return refused_line(refused_fields(at, w));
+        return refused_line(c, refused_fields(at, w));
     }
     let values = w.values;
     let fields = Place {
@@ -382,6 +384,7 @@ fn read_fields(c: Sofar, s: &[u8], at: usize, n: u16, from: usize) -> Line
     Line {
         answer: Answer::Took(record_of(n, s, values, fields)),
         next: w.after + 1,
+        sofar: left(c, n, s, values),
     }
 }
 
@@ -391,7 +394,7 @@ pub fn read(c: Sofar, s: &[u8], at: usize) -> Line
 {
     let h = read_head(c.last, s, at);
     if h.refusal != 0 {
-        return refused_line(refused_at(h.refusal, at));
+        return refused_line(c, refused_at(h.refusal, at));
     }
     read_fields(c, s, at, h.number, h.from)
 }
@@ -516,7 +519,7 @@ fn left(c: Sofar, n: u16, s: &[u8], v: [Value; 9]) -> Sofar
 
 fn pass_fields(c: Sofar, s: &[u8], at: usize, n: u16, from: usize) -> Passed
     requires { ⌜ from ≤ length (now s) ⌝ }
-    ensures { λ r. ⌜ r ≡ passedOf c (fieldsLine (mayJoin (c .month) (c .schedule)) c (now (s .entry)) at n from) ⌝ }
+    ensures { λ r. ⌜ r ≡ passedOf (fieldsLine (mayJoin (c .month) (c .schedule)) c (now (s .entry)) at n from) ⌝ }
 {
     let w = row::read(c, s, n, from);
     if w.number != 0 {
@@ -531,7 +534,7 @@ fn pass_fields(c: Sofar, s: &[u8], at: usize, n: u16, from: usize) -> Passed
 
 // Passes the line at a place of the file: what reading it and its record leave.
 pub fn pass(c: Sofar, s: &[u8], at: usize) -> Passed
-    ensures { λ r. ⌜ r ≡ passedOf c (lineAt (mayJoin (c .month) (c .schedule)) c (now (s .entry)) at) ⌝ }
+    ensures { λ r. ⌜ r ≡ passedOf (lineAt (mayJoin (c .month) (c .schedule)) c (now (s .entry)) at) ⌝ }
 {
     let h = read_head(c.last, s, at);
     if h.refusal != 0 {

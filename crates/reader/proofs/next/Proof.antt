@@ -2,7 +2,9 @@
 use mathlib.Core.Path.{ap, sym, _∙_}
 use borrow.Author.Tests.{eq-eqb, ne-eqb}
 use Rattle.record.specs.declared.Line.{Line}
-use Rattle.reader.specs.Reader.{on, nextRecord}
+use Rattle.reader.specs.Reader.{nextRecord}
+use Rattle.reader.specs.Code.Gone.{movesOn}
+use Rattle.reader.proofs.Laws.{line-on}
 use borrow.Author.Needs.{needs}
 use Rattle.reader.proofs.next.Statement.{statement}
 use Rattle.reader.proofs.next.Tie as tie
@@ -35,7 +37,7 @@ unfolding nextRecord
 returns-3 c =
     let a = c .before .before .before .before .before .before .before .args in
     rw (eq-eqb _ _ (c .before .before .before .before .if1 .left), sym (c .before .before .before .ends .ensures) ∙ c .before .before .if2 .left)
-    (c .moved .ensures ∙ ap (λ (l : Line). on (a .t) (l .answer) (l .next)) (c .before .read .ensures))
+    (c .moved .ensures ∙ ap (λ (l : Line). movesOn (a .t) (l .answer) (l .next) (l .sofar)) (c .before .read .ensures) ∙ line-on (a .t) (a .s .now))
 
 pub next-spec : {M : Type 1} → statement M
 next-spec =

@@ -1,12 +1,9 @@
 -- As a call, by the state, the place and the line.
 use mathlib.Core.Path.{ap, sym, _∙_}
 use borrow.Author.Tests.{eq-eqb, ne-eqb, not-true, not-false}
-use Rattle.schedule.specs.Code.Kept.{mayJoin}
-use Rattle.record.specs.Line.{lineAt}
-use Rattle.record.specs.declared.Line.{Line}
 use Rattle.reader.specs.Reader.{nextRecord}
 use Rattle.reader.specs.Code.Gone.{goneBy}
-use Rattle.reader.proofs.Laws.{gone-by}
+use Rattle.reader.proofs.Laws.{line-gone}
 use borrow.Author.Needs.{needs}
 use Rattle.reader.proofs.pass.Statement.{statement}
 use Rattle.reader.proofs.pass.Tie as tie
@@ -31,9 +28,8 @@ returns-2 : tie.Need-returns-2
 unfolding nextRecord
 returns-2 c =
     let a = c .before .before .before .before .before .before .before .args in
-    let l : Line = lineAt (mayJoin (a .t .sofar .month) (a .t .sofar .schedule)) (a .t .sofar) (a .s .now) (a .t .at) in
     rw (eq-eqb _ _ (c .before .before .before .before .if1 .left), sym (c .before .before .before .ends .ensures) ∙ not-true _ (c .before .before .if2 .taken))
-    (c .went .ensures ∙ ap goneBy (c .before .pass .ensures) ∙ gone-by (a .t) (l .answer) (l .next))
+    (c .went .ensures ∙ ap goneBy (c .before .pass .ensures) ∙ line-gone (a .t) (a .s .now))
 
 closes-requires : tie.Need-closes-requires
 closes-requires c κs = search needs

@@ -1,5 +1,9 @@
--- A call without its record: where the reader goes on, or why it does not.
+-- A call by the line that it reads; and a call without its record: where the reader goes on, or why it does not.
 -- Assumes nothing.
+use Prim.Native.Nat.{ℕ}
+use Rattle.field.specs.declared.Sofar.{Sofar}
+use Rattle.record.specs.declared.Answer.{Answer}
+use Rattle.record.specs.declared.Answer.the-variants.{Took, Refused as NotTook}
 use Rattle.record.specs.declared.Passed.{Passed}
 use Rattle.record.specs.declared.Passed.the-variants.{On as Along, Refused as Stopped}
 use Rattle.reader.specs.declared.State.{State}
@@ -8,6 +12,11 @@ use Rattle.reader.specs.declared.Handed.the-variants.{Record as Hands, R
 use Rattle.reader.specs.declared.Step.{Step}
 use Rattle.reader.specs.declared.Gone.{Gone}
 use Rattle.reader.specs.declared.Gone.the-variants.{On, Refused, End}
+
+-- A record is handed out, and the reader goes on after it.
+abbrev pub movesOn : State → Answer → ℕ → Sofar → Step
+movesOn t (Took r) next c = record { next = Hands r; state = record { number = 0; at = next; sofar = c } }
+movesOn t (NotTook f) next c = record { next = Refuses f; state = t }
 
 abbrev pub gone : Handed → State → Gone
 gone (Hands r) t = On t

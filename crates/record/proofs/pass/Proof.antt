@@ -18,7 +18,7 @@ returns : tie.Need-returns
 returns c =
     let a = c .before .before .before .before .before .args in
     let h = c .before .before .before .read-head .ensures .line (mayJoin (a .c .month) (a .c .schedule)) (a .c) refl in
-    ap Refused (c .refused-at .ensures) ∙ ap (passedOf (a .c)) (rw (ne-eqb _ _ (c .before .if1 .taken)) at h)
+    ap Refused (c .refused-at .ensures) ∙ ap passedOf (rw (ne-eqb _ _ (c .before .if1 .taken)) at h)
 
 pass-fields-requires : tie.Need-pass-fields-requires
 pass-fields-requires c κs = c .before .before .read-head .ensures .inside (c .if1 .left)
@@ -27,7 +27,7 @@ returns-2 : tie.Need-returns-2
 returns-2 c =
     let a = c .before .before .before .before .before .args in
     let h = c .before .before .before .read-head .ensures .line (mayJoin (a .c .month) (a .c .schedule)) (a .c) refl in
-    c .pass-fields .ensures ∙ ap (passedOf (a .c)) (rw (eq-eqb _ 0 (c .before .if1 .left)) at h)
+    c .pass-fields .ensures ∙ ap passedOf (rw (eq-eqb _ 0 (c .before .if1 .left)) at h)
 
 pub pass-spec : {M : Type 1} → statement M
 pass-spec =

@@ -20,7 +20,7 @@ returns : tie.Need-returns
 returns c =
     let a = c .before .before .before .before .before .before .args in
     let h = c .before .before .before .before .read-head .ensures .line (mayJoin (a .c .month) (a .c .schedule)) (a .c) refl in
-    c .refused-line .ensures ∙ ap refusedLine (c .before .refused-at .ensures) ∙ (rw (ne-eqb _ _ (c .before .before .if1 .taken)) at h)
+    c .refused-line .ensures ∙ ap (refusedLine (a .c)) (c .before .refused-at .ensures) ∙ (rw (ne-eqb _ _ (c .before .before .if1 .taken)) at h)
 
 read-fields-requires : tie.Need-read-fields-requires
 read-fields-requires c κs = c .before .before .read-head .ensures .inside (c .if1 .left)

@@ -1,5 +1,5 @@
 -- The record where the row is right, else the row's refusal.
-use Prim.Native.Nat.{_+_}
+use Prim.Native.Nat.{_+_, _-_}
 use mathlib.Core.Path.{_≡_, ap, _∙_}
 use native.Mathlib.Omega.{arith}
 use borrow.Author.Tests.{eq-eqb, ne-eqb}
@@ -27,7 +27,7 @@ unfolding fieldsLine
 returns c =
     let a = c .before .before .before .before .before .before .args in
     let e = c .before .before .before .before .read .ensures in
-    rw (← e, ne-eqb _ _ (c .before .before .if1 .taken)) (c .refused-line .ensures ∙ ap refusedLine (c .before .refused-fields .ensures))
+    rw (← e, ne-eqb _ _ (c .before .before .if1 .taken)) (c .refused-line .ensures ∙ ap (refusedLine (c .before .before .before .before .before .before .args .c)) (c .before .refused-fields .ensures))
 
 sub-t11 : tie.Need-sub-t11
 sub-t11 c =
@@ -47,12 +47,20 @@ add-t11 c =
     row-after (mayJoin (a .c .month) (a .c .schedule)) (a .c) (a .n) (a .from) (fieldsAt (a .s .now) (a .from)) _ (c .before .before .before .before .before .before .read .ensures) (c .before .before .before .before .if1 .left) in
     omega (arith, k, fields-end (a .s .now) (a .from) (omega arith))
 
+left-requires : tie.Need-left-requires
+left-requires c κs = search needs
+
 returns-2 : tie.Need-returns-2
 unfolding fieldsLine
 returns-2 c =
-    let a = c .before .before .before .before .before .before .before .before .args in
-    let e = c .before .before .before .before .before .before .read .ensures in
-    rw (← e, eq-eqb _ 0 (c .before .before .before .before .if1 .left), c .before .record-of .ensures)
+    let a = c .before .before .before .before .before .before .before .before .before .args in
+    let e = c .before .before .before .before .before .before .before .read .ensures in
+    rw (
+      ← e,
+      eq-eqb _ 0 (c .before .before .before .before .before .if1 .left),
+      c .before .before .record-of .ensures,
+      c .left .ensures (record { from = a .from; to = c .before .before .before .before .before .before .before .read .result .after - 1 }),
+    )
 
 pub read-fields-spec : {M : Type 1} → statement M
 read-fields-spec =
@@ -65,4 +73,5 @@ read-fields-spec =
     sub-t11
     record-of-requires
     add-t11
+    left-requires
     returns-2)

@@ -95,27 +95,28 @@ builtOf n s vs fields =
     (cond (eqb n 181) (built181 s vs) (cond (eqb n 201) (built201 vs) (Kept (record { number = n; fields = fields }))))))
 
 -- A line that is refused.
-abbrev pub refusedLine : Refusal → Line
-refusedLine f = record { answer = Refused f; next = 0 }
+abbrev pub refusedLine : Sofar → Refusal → Line
+refusedLine c f = record { answer = Refused f; next = 0; sofar = c }
 
 -- A line that is taken, from what its fields are read as; `after` is the place after its CR.
-abbrev pub tookLine : ℕ → List ℕ → ℕ → Row → Line
-tookLine n s from w =
+abbrev pub tookLine : Sofar → ℕ → List ℕ → ℕ → Row → Line
+tookLine c n s from w =
     record {
       answer = Took (builtOf n s (w .values) (record { from = from; to = w .after - 1 }));
       next = w .after + 1;
+      sofar = after c (builtOf n s (w .values) (record { from = from; to = w .after - 1 }));
     }
 
 -- The fields of a record at an offset, of which the first begins at `from`.
 unfoldable pub fieldsLine : (Supplement → Bool) → Sofar → List ℕ → ℕ → ℕ → ℕ → Line
 fieldsLine joins c s at n from =
-    cond (eqb (readRow joins c n from (fieldsAt s from) .number) 0) (tookLine n s from (readRow joins c n from (fieldsAt s from)))
-    (refusedLine (rowRefusal at (readRow joins c n from (fieldsAt s from))))
+    cond (eqb (readRow joins c n from (fieldsAt s from) .number) 0) (tookLine c n s from (readRow joins c n from (fieldsAt s from)))
+    (refusedLine c (rowRefusal at (readRow joins c n from (fieldsAt s from))))
 
 -- The line from what it begins with.
 abbrev pub headedLine : (Supplement → Bool) → Sofar → List ℕ → ℕ → Head → Line
 headedLine joins c s at h =
-    cond (eqb (h .refusal) 0) (fieldsLine joins c s at (h .number) (h .from)) (refusedLine (refusal (h .refusal) at))
+    cond (eqb (h .refusal) 0) (fieldsLine joins c s at (h .number) (h .from)) (refusedLine c (refusal (h .refusal) at))
 
 -- What a line begins with: from it the line is read as document 01 says, after any records of which the last has that number.
 pub record Heads (last : ℕ) (s : List ℕ) (at : ℕ) (h : Head) : Type 0 where
