@@ -443,8 +443,6 @@ fn read_typed(c: Sofar, s: &[u8], at: usize, ends: [usize; 9], t: Rules) -> Row
     requires { ⌜ (at ≤ length (now s)) × (t .count ≤ 9) × (length (fieldsAt (now s) at) ≡ t .count) × (marks ends 0 at (fieldsAt (now s) at) ≡ true) ⌝ }
     ensures { λ r. ⌜ r ≡ rowFrom (mayJoin (c .month) (c .schedule)) c 0 at (t .each) (fieldsAt (now (s .entry)) at) blanks ⌝ }
 {
-    let rules = t.each;
-    let count = t.count;
     let mut values = [Value {
         n: 0,
         amount: 0,
@@ -453,9 +451,9 @@ fn read_typed(c: Sofar, s: &[u8], at: usize, ends: [usize; 9], t: Rules) -> Row
     }; 9];
     let mut from = at;
     let mut i: usize = 0;
-    while i < count {
+    while i < t.count {
         let to = ends[i];
-        let f = field::read(c, rules[i], &s[from..to]);
+        let f = field::read(c, t.each[i], &s[from..to]);
         if f.number != 0 {
             return refused(i + 1, f);
         }

@@ -95,22 +95,22 @@ end-noted : (s : List ℕ) (at : ℕ) → at ≤ length s → (i count : ℕ) �
 end-noted s at h i count b n ends t = noted s at h (fieldEnd s at) refl i count b n ends t .0
 
 abbrev Inv-loop : tie.InvT-loop
-Inv-loop c s at ends rules count values₀ from₀ i₀ values from i =
-    (i ≤ count)
-    × (i < count → from ≤ length s)
-    × (i + length (left i count s from) ≡ count)
-    × (rowFrom (mayJoin (c .month) (c .schedule)) c i from rules (left i count s from) values
-    ≡ rowFrom (mayJoin (c .month) (c .schedule)) c 0 at rules (fieldsAt s at) blanks)
-    × (marks ends i from (left i count s from) ≡ true)
+Inv-loop c s at ends t values₀ from₀ i₀ values from i =
+    (i ≤ t .count)
+    × (i < t .count → from ≤ length s)
+    × (i + length (left i (t .count) s from) ≡ t .count)
+    × (rowFrom (mayJoin (c .month) (c .schedule)) c i from (t .each) (left i (t .count) s from) values
+    ≡ rowFrom (mayJoin (c .month) (c .schedule)) c 0 at (t .each) (fieldsAt s at) blanks)
+    × (marks ends i from (left i (t .count) s from) ≡ true)
 
 abbrev μ-loop : tie.MeasureT-loop
-μ-loop c s at ends rules count values₀ from₀ i₀ values from i = count - i
+μ-loop c s at ends t values₀ from₀ i₀ values from i = t .count - i
 
 loop-holds : tie.Need-loop-holds Inv-loop μ-loop
 loop-holds c =
-    let a = c .before .before .args in
-    let p = c .before .before .pre in
-    let w : left 0 (a .t .count) (a .s .now) (a .at) ≡ fieldsAt (a .s .now) (a .at) = whole (a .s .now) (a .at) (p .0) (a .t .count) (p .2) in
+    let a = c .before .args in
+    let p = c .before .pre in
+    let w : left 0 (a .t5 .count) (a .s .now) (a .at) ≡ fieldsAt (a .s .now) (a .at) = whole (a .s .now) (a .at) (p .0) (a .t5 .count) (p .2) in
     (omega arith, λ k. p .0, rw (w, zero-add) (p .2), rw w, rw w (p .3))
 
 mul-to : tie.Need-mul-to Inv-loop μ-loop
@@ -122,34 +122,34 @@ array-read-to c = search needs
 mul-read : tie.Need-mul-read Inv-loop μ-loop
 mul-read c = search needs
 
-array-copy-out-read : tie.Need-array-copy-out-read Inv-loop μ-loop
-array-copy-out-read c = search needs
+element-copy-out-read : tie.Need-element-copy-out-read Inv-loop μ-loop
+element-copy-out-read c = search needs
 
 sub-read : tie.Need-sub-read Inv-loop μ-loop
 sub-read c =
     let f = c .before in
-    let a = f .before .before .before .before .args in
+    let a = f .before .before .before .args in
     let l = f .before .loop in
     let b = f .loop-test .taken in
-    let q = end-noted (a .s .now) (l .from) (l .inv .1 b) (l .i) (a .t .count) b (l .inv .2) (a .t4) (l .inv .4) in
+    let q = end-noted (a .s .now) (l .from) (l .inv .1 b) (l .i) (a .t5 .count) b (l .inv .2) (a .t4) (l .inv .4) in
     omega (arith, within (a .s .now) (l .from) (l .inv .1 b) (getD (a .t4) (l .i) 0) q)
 
 part-read-start : tie.Need-part-read-start Inv-loop μ-loop
 part-read-start c =
     let f = c .before in
-    let a = f .before .before .before .before .args in
+    let a = f .before .before .before .args in
     let l = f .before .loop in
     let b = f .loop-test .taken in
-    let q = end-noted (a .s .now) (l .from) (l .inv .1 b) (l .i) (a .t .count) b (l .inv .2) (a .t4) (l .inv .4) in
+    let q = end-noted (a .s .now) (l .from) (l .inv .1 b) (l .i) (a .t5 .count) b (l .inv .2) (a .t4) (l .inv .4) in
     omega (arith, within (a .s .now) (l .from) (l .inv .1 b) (getD (a .t4) (l .i) 0) q)
 
 part-read-end : tie.Need-part-read-end Inv-loop μ-loop
 part-read-end c =
     let f = c .before in
-    let a = f .before .before .before .before .args in
+    let a = f .before .before .before .args in
     let l = f .before .loop in
     let b = f .loop-test .taken in
-    let q = end-noted (a .s .now) (l .from) (l .inv .1 b) (l .i) (a .t .count) b (l .inv .2) (a .t4) (l .inv .4) in
+    let q = end-noted (a .s .now) (l .from) (l .inv .1 b) (l .i) (a .t5 .count) b (l .inv .2) (a .t4) (l .inv .4) in
     omega (arith, within (a .s .now) (l .from) (l .inv .1 b) (getD (a .t4) (l .i) 0) q)
 
 read-requires : tie.Need-read-requires Inv-loop μ-loop
@@ -164,13 +164,13 @@ refused-requires c κs = search needs
 returns : tie.Need-returns Inv-loop μ-loop
 returns c =
     let f = c .before .before .before .before .before .before in
-    let a = f .before .before .before .before .args in
+    let a = f .before .before .before .args in
     let l = f .before .loop in
     let b = f .loop-test .taken in
-    let q = end-noted (a .s .now) (l .from) (l .inv .1 b) (l .i) (a .t .count) b (l .inv .2) (a .t4) (l .inv .4) in
+    let q = end-noted (a .s .now) (l .from) (l .inv .1 b) (l .i) (a .t5 .count) b (l .inv .2) (a .t4) (l .inv .4) in
     let r = c .before .before .before .read in
     c .refused .ensures
-    ∙ sym (wrong-field (a .s .now) (l .from) (l .inv .1 b) (getD (a .t4) (l .i) 0) q (l .i) (a .t .count) b (l .inv .2) (mayJoin (a .c .month) (a .c .schedule)) (a .c) (a .t .each) (l .values) (r .result) (r .ensures) (c .before .if1 .taken))
+    ∙ sym (wrong-field (a .s .now) (l .from) (l .inv .1 b) (getD (a .t4) (l .i) 0) q (l .i) (a .t5 .count) b (l .inv .2) (mayJoin (a .c .month) (a .c .schedule)) (a .c) (a .t5 .each) (l .values) (r .result) (r .ensures) (c .before .if1 .taken))
     ∙ l .inv .3
 
 mul-values : tie.Need-mul-values Inv-loop μ-loop
@@ -182,10 +182,10 @@ array-set-from-values c = search needs
 add-from : tie.Need-add-from Inv-loop μ-loop
 add-from c =
     let f = c .before .before .before .before .before in
-    let a = f .before .before .before .before .args in
+    let a = f .before .before .before .args in
     let l = f .before .loop in
     let b = f .loop-test .taken in
-    let q = end-noted (a .s .now) (l .from) (l .inv .1 b) (l .i) (a .t .count) b (l .inv .2) (a .t4) (l .inv .4) in
+    let q = end-noted (a .s .now) (l .from) (l .inv .1 b) (l .i) (a .t5 .count) b (l .inv .2) (a .t4) (l .inv .4) in
     omega (arith, within (a .s .now) (l .from) (l .inv .1 b) (getD (a .t4) (l .i) 0) q)
 
 add-i : tie.Need-add-i Inv-loop μ-loop
@@ -197,25 +197,25 @@ loop-less c = search needs
 loop-again : tie.Need-loop-again Inv-loop μ-loop
 loop-again c =
     let f = c .before .before .before .before .before in
-    let a = f .before .before .before .before .args in
+    let a = f .before .before .before .args in
     let l = f .before .loop in
     let b = f .loop-test .taken in
-    let q = end-noted (a .s .now) (l .from) (l .inv .1 b) (l .i) (a .t .count) b (l .inv .2) (a .t4) (l .inv .4) in
+    let q = end-noted (a .s .now) (l .from) (l .inv .1 b) (l .i) (a .t5 .count) b (l .inv .2) (a .t4) (l .inv .4) in
     let e : ℕ = getD (a .t4) (l .i) 0 in
     let r = c .before .before .read in (
       omega arith,
-      parts (a .s .now) (l .from) (l .inv .1 b) e q (l .i) (a .t .count) b (l .inv .2) .1,
-      rest (a .s .now) (l .from) (l .inv .1 b) e q (l .i) (a .t .count) b (l .inv .2),
-      sym (read-field (a .s .now) (l .from) (l .inv .1 b) e q (l .i) (a .t .count) b (l .inv .2) (mayJoin (a .c .month) (a .c .schedule)) (a .c) (a .t .each) (l .values) (r .result) (r .ensures) (c .if1 .left)) ∙ l .inv .3,
-      noted (a .s .now) (l .from) (l .inv .1 b) e q (l .i) (a .t .count) b (l .inv .2) (a .t4) (l .inv .4) .1,
+      parts (a .s .now) (l .from) (l .inv .1 b) e q (l .i) (a .t5 .count) b (l .inv .2) .1,
+      rest (a .s .now) (l .from) (l .inv .1 b) e q (l .i) (a .t5 .count) b (l .inv .2),
+      sym (read-field (a .s .now) (l .from) (l .inv .1 b) e q (l .i) (a .t5 .count) b (l .inv .2) (mayJoin (a .c .month) (a .c .schedule)) (a .c) (a .t5 .each) (l .values) (r .result) (r .ensures) (c .if1 .left)) ∙ l .inv .3,
+      noted (a .s .now) (l .from) (l .inv .1 b) e q (l .i) (a .t5 .count) b (l .inv .2) (a .t4) (l .inv .4) .1,
     )
 
 returns-2 : tie.Need-returns-2 Inv-loop μ-loop
 unfolding rowFrom
 returns-2 c =
-    let a = c .before .before .before .before .args in
+    let a = c .before .before .before .args in
     let l = c .before .loop in
-    let w : left (l .i) (a .t .count) (a .s .now) (l .from) ≡ [] = left-none (l .i) (a .t .count) (a .s .now) (l .from) (c .loop-test .left) in
+    let w : left (l .i) (a .t5 .count) (a .s .now) (l .from) ≡ [] = left-none (l .i) (a .t5 .count) (a .s .now) (l .from) (c .loop-test .left) in
     rw w at (l .inv .3)
 
 pub read-typed-spec : {M : Type 1} → statement M
@@ -228,7 +228,7 @@ read-typed-spec =
     mul-to
     array-read-to
     mul-read
-    array-copy-out-read
+    element-copy-out-read
     sub-read
     part-read-start
     part-read-end
