@@ -283,6 +283,122 @@ fn record_of(n: u16, s: &[u8], v: [Value; 9], fields: Place) -> Record
     })
 }
 
+// ---- what a record leaves
+
+fn after_issue(c: Sofar, month: u8) -> Sofar
+    ensures { λ r. ⌜ r ≡ issued c month ⌝ }
+{
+    let mut t = c;
+    t.last = 51;
+    t.month = month;
+    t.schedule = schedule::none();
+    t
+}
+
+fn after_rp(c: Sofar, rp: RpNumber) -> Sofar
+    ensures { λ r. ⌜ r ≡ begun c rp ⌝ }
+{
+    let drug = DrugSerial(0);
+    let supplement = SupplementSerial(0);
+    let mut t = c;
+    t.last = 101;
+    t.rp = rp;
+    t.drug = drug;
+    t.supplement = supplement;
+    t.schedule = schedule::none();
+    t
+}
+
+// What is kept of the RP's supplements with one more, or with none.
+fn scheduled(t: Schedule, code: SupplementCode) -> Schedule
+    ensures { λ r. ⌜ r ≡ withCode t code ⌝ }
+{
+    match code {
+        SupplementCode::Is(x) => schedule::with(x),
+        SupplementCode::Empty => t,
+    }
+}
+
+fn after_supplement(c: Sofar, serial: SupplementSerial, code: SupplementCode) -> Sofar
+    ensures { λ r. ⌜ r ≡ supplied c serial code ⌝ }
+{
+    let before = c.schedule;
+    let mut t = c;
+    t.last = 181;
+    t.supplement = serial;
+    t.schedule = scheduled(before, code);
+    t
+}
+
+fn after_drug(c: Sofar, serial: DrugSerial) -> Sofar
+    ensures { λ r. ⌜ r ≡ drugged c serial ⌝ }
+{
+    let mut t = c;
+    t.last = 201;
+    t.drug = serial;
+    t
+}
+
+// A record that leaves nothing but its number.
+fn after_other(c: Sofar, last: u16) -> Sofar
+    ensures { λ r. ⌜ r ≡ withLast c last ⌝ }
+{
+    let mut t = c;
+    t.last = last;
+    t
+}
+
+// Before the first record.
+pub fn start() -> Sofar
+    ensures { λ r. ⌜ r ≡ startOf ⌝ }
+{
+    Sofar {
+        last: 0,
+        month: 0,
+        rp: RpNumber(0),
+        drug: DrugSerial(0),
+        supplement: SupplementSerial(0),
+        schedule: schedule::none(),
+    }
+}
+
+// What the records up to this one leave.
+pub fn after(c: Sofar, r: Record) -> Sofar
+    ensures { λ t. ⌜ t ≡ afterOf c r ⌝ }
+{
+    match r {
+        Record::Issue(x) => after_issue(c, x.date.month),
+        Record::Rp(x) => after_rp(c, x.rp),
+        Record::Usage(_) => after_other(c, 111),
+        Record::Supplement(x) => {
+            let code = x.code;
+            after_supplement(c, x.serial, code)
+        }
+        Record::Drug(x) => after_drug(c, x.serial),
+        Record::Kept(x) => after_other(c, x.number),
+    }
+}
+
+// What the record of a number and its values leaves, told without the record.
+fn left(c: Sofar, n: u16, s: &[u8], v: [Value; 9]) -> Sofar
+    ensures { λ r. ⌜ Leaves c n (now (s .entry)) v r ⌝ }
+{
+    if n == 51 {
+        let date = date_at(s, placed(v[0]));
+        return after_issue(c, date.month);
+    }
+    if n == 101 {
+        return after_rp(c, RpNumber(v[0].n));
+    }
+    if n == 181 {
+        return after_supplement(c, SupplementSerial(v[1].n), supplement_at(s, placed(v[4])));
+    }
+    if n == 201 {
+        return after_drug(c, DrugSerial(v[1].n));
+    }
+    after_other(c, n)
+}
+
 // ---- lines
 
 // A refusal of the record at a place.
@@ -397,124 +513,6 @@ pub fn read(c: Sofar, s: &[u8], at: usize) -> Line
         return refused_line(c, refused_at(h.refusal, at));
     }
     read_fields(c, s, at, h.number, h.from)
-}
-
-// ---- what a record leaves
-
-fn after_issue(c: Sofar, month: u8) -> Sofar
-    ensures { λ r. ⌜ r ≡ issued c month ⌝ }
-{
-    let mut t = c;
-    t.last = 51;
-    t.month = month;
-    t.schedule = schedule::none();
-    t
-}
-
-fn after_rp(c: Sofar, rp: RpNumber) -> Sofar
-    ensures { λ r. ⌜ r ≡ begun c rp ⌝ }
-{
-    let drug = DrugSerial(0);
-    let supplement = SupplementSerial(0);
-    let mut t = c;
-    t.last = 101;
-    t.rp = rp;
-    t.drug = drug;
-    t.supplement = supplement;
-    t.schedule = schedule::none();
-    t
-}
-
-// What is kept of the RP's supplements with one more, or with none.
-fn scheduled(t: Schedule, code: SupplementCode) -> Schedule
-    ensures { λ r. ⌜ r ≡ withCode t code ⌝ }
-{
-    match code {
-        SupplementCode::Is(x) => schedule::with(x),
-        SupplementCode::Empty => t,
-    }
-}
-
-fn after_supplement(c: Sofar, serial: SupplementSerial, code: SupplementCode) -> Sofar
-    ensures { λ r. ⌜ r ≡ supplied c serial code ⌝ }
-{
-    let before = c.schedule;
-    let mut t = c;
-    t.last = 181;
-    t.supplement = serial;
-    t.schedule = scheduled(before, code);
-    t
-}
-
-fn after_drug(c: Sofar, serial: DrugSerial) -> Sofar
-    ensures { λ r. ⌜ r ≡ drugged c serial ⌝ }
-{
-    let mut t = c;
-    t.last = 201;
-    t.drug = serial;
-    t
-}
-
-// A record that leaves nothing but its number.
-fn after_other(c: Sofar, last: u16) -> Sofar
-    ensures { λ r. ⌜ r ≡ withLast c last ⌝ }
-{
-    let mut t = c;
-    t.last = last;
-    t
-}
-
-// Before the first record.
-pub fn start() -> Sofar
-    ensures { λ r. ⌜ r ≡ startOf ⌝ }
-{
-    Sofar {
-        last: 0,
-        month: 0,
-        rp: RpNumber(0),
-        drug: DrugSerial(0),
-        supplement: SupplementSerial(0),
-        schedule: schedule::none(),
-    }
-}
-
-// What the records up to this one leave.
-pub fn after(c: Sofar, r: Record) -> Sofar
-    ensures { λ t. ⌜ t ≡ afterOf c r ⌝ }
-{
-    match r {
-        Record::Issue(x) => after_issue(c, x.date.month),
-        Record::Rp(x) => after_rp(c, x.rp),
-        Record::Usage(_) => after_other(c, 111),
-        Record::Supplement(x) => {
-            let code = x.code;
-            after_supplement(c, x.serial, code)
-        }
-        Record::Drug(x) => after_drug(c, x.serial),
-        Record::Kept(x) => after_other(c, x.number),
-    }
-}
-
-// ---- lines passed
-
-// What the record of a number and its values would leave, though it is not made.
-fn left(c: Sofar, n: u16, s: &[u8], v: [Value; 9]) -> Sofar
-    ensures { λ r. ⌜ Leaves c n (now (s .entry)) v r ⌝ }
-{
-    if n == 51 {
-        let date = date_at(s, placed(v[0]));
-        return after_issue(c, date.month);
-    }
-    if n == 101 {
-        return after_rp(c, RpNumber(v[0].n));
-    }
-    if n == 181 {
-        return after_supplement(c, SupplementSerial(v[1].n), supplement_at(s, placed(v[4])));
-    }
-    if n == 201 {
-        return after_drug(c, DrugSerial(v[1].n));
-    }
-    after_other(c, n)
 }
 
 fn pass_fields(c: Sofar, s: &[u8], at: usize, n: u16, from: usize) -> Passed
