@@ -148,6 +148,15 @@ then (t ∷ ts) us h = go (t .passed) (then ts us (h .1))
     go true e = e
     go false e = simp (h .0)
 
+-- a program that stops at its first fault tells the first of both; so does one that goes on where there is none
+pub stops : {f f′ r : Fault} (g : Fault) → f ≡ f′ → (f .number ≡ 0 → ⊥) → either f′ g ≡ r → f ≡ r
+unfolding either
+stops {f} {f′} g e h w = let k : f ≡ either f g = rw (ne-eqb (f .number) 0 h) in k ∙ ap (λ (x : Fault). either x g) e ∙ w
+
+pub goes : {f f′ g g′ r : Fault} → f ≡ f′ → f .number ≡ 0 → g ≡ g′ → either f′ g′ ≡ r → g ≡ r
+unfolding either
+goes {f} {f′} {g} {g′} e h k w = let l : g′ ≡ either f g′ = rw (eq-eqb (f .number) 0 h) in k ∙ l ∙ ap (λ (x : Fault). either x g′) e ∙ w
+
 pub numbered : (k i : ℕ) (xs : List Cell) (s : List ℕ) → Numbered (cells k i xs s)
 unfolding cells
 numbered zero i xs s = tt

@@ -2,7 +2,7 @@
 ghost use mathlib.Core.Path.{_≡_};
 ghost use Prim.Native.Nat.{_+_, _-_, _<_, _≤_};
 ghost use lib.ListN.{length};
-ghost use Rattle.cells.specs.Code.Mask.{value as valueOf, letter as letterOf, has as hasOf, wrong as wrongOf, unused as unusedOf, wrongAt, scan, either as eitherOf};
+ghost use Rattle.cells.specs.Code.Mask.{value as valueOf, letter as letterOf, has as hasOf, wrong as wrongOf, unused as unusedOf, wrongAt, scan};
 
 // One of document 01's numbers, and a place; the number 0 says that nothing is at fault.
 pub struct Fault {
@@ -125,14 +125,4 @@ pub fn first_fault(sets: &[u64], rise: usize, last: u8, s: &[u8], from: usize) -
         number: 0,
         place: 0,
     }
-}
-
-// The first of two faults.
-pub fn either(f: Fault, g: Fault) -> Fault
-    ensures { λ r. ⌜ r ≡ eitherOf f g ⌝ }
-{
-    if f.number == 0 {
-        return g;
-    }
-    f
 }

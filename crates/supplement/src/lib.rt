@@ -146,7 +146,10 @@ fn week_fault(s: &[u8]) -> Fault
 {
     let sets = [MARK; 7];
     let f = cells::first_fault(&sets, 7, ANY, s, 1);
-    cells::either(f, week_rule(empty_week(s)))
+    if f.number != 0 {
+        return f;
+    }
+    week_rule(empty_week(s))
 }
 
 fn last_day(month: u8) -> u8

@@ -287,9 +287,14 @@ fn frame_fault(s: &[u8]) -> Fault
     let detail = s[1];
     let kind = s[2];
     let f = test(2, 1, among(CLASSES, class));
+    if f.number != 0 {
+        return f;
+    }
     let g = test(3, 2, among(details(class), detail));
-    let h = test(4, 3, among(kinds(class, detail), kind));
-    cells::either(f, cells::either(g, h))
+    if g.number != 0 {
+        return g;
+    }
+    test(4, 3, among(kinds(class, detail), kind))
 }
 
 // How many characters from the 5th to the 10th are not 0.
@@ -336,7 +341,14 @@ fn meal_fault(s: &[u8]) -> Fault
     ensures { λ r. ⌜ r ≡ first (mealTests (now (s .entry))) ⌝ }
 {
     let f = cells::first_fault(&MEALS, NEVER, ANY, s, 3);
-    cells::either(f, cells::either(count_fault(s), fifteen_fault(s)))
+    if f.number != 0 {
+        return f;
+    }
+    let g = count_fault(s);
+    if g.number != 0 {
+        return g;
+    }
+    fifteen_fault(s)
 }
 
 // Kind 2.
@@ -395,9 +407,14 @@ fn event_fault(s: &[u8]) -> Fault
     ensures { λ r. ⌜ r ≡ first (eventTests (now (s .entry))) ⌝ }
 {
     let f = test(5, 4, among(ZERO, s[3]));
+    if f.number != 0 {
+        return f;
+    }
     let g = test(8, 5, in_table(s[4], s[5], s[6]));
-    let h = cells::first_fault(&LIMITS, NEVER, ANY, s, 7);
-    cells::either(f, cells::either(g, h))
+    if g.number != 0 {
+        return g;
+    }
+    cells::first_fault(&LIMITS, NEVER, ANY, s, 7)
 }
 
 // Kind 6.
@@ -406,7 +423,10 @@ fn outside_fault(s: &[u8]) -> Fault
     ensures { λ r. ⌜ r ≡ first (outsideTests (now (s .entry))) ⌝ }
 {
     let f = cells::first_fault(&OUTSIDE, NEVER, ANY, s, 3);
-    cells::either(f, count_fault(s))
+    if f.number != 0 {
+        return f;
+    }
+    count_fault(s)
 }
 
 // Kind 7's pairs: by the 4th character what may stand 5th, 0 2 N, 0 3, 0 4 A, 0 5 A, 0 A, or nothing.
@@ -437,8 +457,10 @@ fn pair_fault(s: &[u8]) -> Fault
     ensures { λ r. ⌜ r ≡ first (pairTests (now (s .entry))) ⌝ }
 {
     let f = test(8, 4, among(pairs(s[3]), s[4]));
-    let g = cells::first_fault(&NOTHING, NEVER, ANY, s, 5);
-    cells::either(f, g)
+    if f.number != 0 {
+        return f;
+    }
+    cells::first_fault(&NOTHING, NEVER, ANY, s, 5)
 }
 
 // The 4th to the 16th character, by the timing kind.
@@ -634,8 +656,11 @@ fn read_sixteen(s: &[u8]) -> Reading
     requires { ⌜ length (now s) ≡ 16 ⌝ }
     ensures { λ r. ⌜ saidOf r ≡ readUsage (now (s .entry)) ⌝ }
 {
-    let f = cells::either(frame_fault(s), timing_fault(s));
-    conclude(f, said(s))
+    let f = frame_fault(s);
+    if f.number != 0 {
+        return Reading::Refused(f);
+    }
+    conclude(timing_fault(s), said(s))
 }
 
 // Reads a usage code: what it says, or the number and the place of the first fault.

@@ -1,12 +1,13 @@
--- `usage::frame_fault` meets its contract: the three faults, in order, by `Faults.framed`.
-use mathlib.Core.Path.{_∙_}
+-- The three faults, in order, by `Faults.framed`.
+use mathlib.Core.Path.{refl, _∙_}
 use mathlib.Core.List.{[], _∷_}
 use Rattle.cells.specs.Test.{test, first}
 use Rattle.cells.specs.Cells.{char}
-use Rattle.cells.specs.Code.Mask.{value, has, either}
+use Rattle.cells.specs.Code.Mask.{value, has}
+use Rattle.cells.proofs.Bridge.{stops, goes}
 use native.Mathlib.Omega.{arith}
-use borrow.Author.Needs.{needs}
 use Rattle.usage.proofs.Faults.{framed}
+use borrow.Author.Needs.{needs}
 use Rattle.usage.proofs.frame_fault.Statement.{statement}
 use Rattle.usage.proofs.frame_fault.Tie as tie
 
@@ -25,6 +26,9 @@ among-requires c κs = search needs
 test-requires : tie.Need-test-requires
 test-requires c κs = search needs
 
+returns : tie.Need-returns
+returns c = stops _ (c .before .before .test .ensures ∙ (λ i. first (test 2 1 (c .before .before .before .among .ensures i) ∷ []))) (c .if1 .taken) (framed (c .before .before .before .before .before .before .before .before .args .s .now) (c .before .before .before .before .before .before .before .before .pre) (λ p. omega (arith, c .before .before .before .before .before .before .before .shared-slice-known .given p)))
+
 details-requires : tie.Need-details-requires
 details-requires c κs = search needs
 
@@ -33,6 +37,9 @@ among-requires-2 c κs = search needs
 
 test-requires-2 : tie.Need-test-requires-2
 test-requires-2 c κs = search needs
+
+returns-2 : tie.Need-returns-2
+returns-2 c = goes (c .before .before .before .before .before .before .before .test .ensures ∙ (λ i. first (test 2 1 (c .before .before .before .before .before .before .before .before .among .ensures i) ∷ []))) (c .before .before .before .before .before .if1 .left) (stops _ (c .before .before .test2 .ensures ∙ (λ i. first (test 3 2 ((c .before .before .before .among2 .ensures ∙ (λ j. has (c .before .before .before .before .details .ensures j) (value (char (c .before .before .before .before .before .before .before .before .before .before .before .before .before .args .s .now) 2)))) i) ∷ []))) (c .if2 .taken) refl) (framed (c .before .before .before .before .before .before .before .before .before .before .before .before .before .args .s .now) (c .before .before .before .before .before .before .before .before .before .before .before .before .before .pre) (λ p. omega (arith, c .before .before .before .before .before .before .before .before .before .before .before .before .shared-slice-known .given p)))
 
 kinds-requires : tie.Need-kinds-requires
 kinds-requires c κs = search needs
@@ -43,19 +50,8 @@ among-requires-3 c κs = search needs
 test-requires-3 : tie.Need-test-requires-3
 test-requires-3 c κs = search needs
 
-either-requires : tie.Need-either-requires
-either-requires c κs = search needs
-
-either-requires-2 : tie.Need-either-requires-2
-either-requires-2 c κs = search needs
-
-returns : tie.Need-returns
-returns c =
-    let f = c .before .before .before .before .before .before .before .before .before .before .before .before .before .before in
-    let g = c .before .before .before .before .before .before .before .before .test .ensures ∙ (λ i. first (test 2 1 (c .before .before .before .before .before .before .before .before .before .among .ensures i) ∷ [])) in
-    let h = c .before .before .before .before .before .test2 .ensures ∙ (λ i. first (test 3 2 ((c .before .before .before .before .before .before .among2 .ensures ∙ (λ j. has (c .before .before .before .before .before .before .before .details .ensures j) (value (char (f .args .s .now) 2)))) i) ∷ [])) in
-    let k = c .before .before .test3 .ensures ∙ (λ i. first (test 4 3 ((c .before .before .before .among3 .ensures ∙ (λ j. has (c .before .before .before .before .kinds .ensures j) (value (char (f .args .s .now) 3)))) i) ∷ [])) in
-    c .either2 .ensures ∙ (λ i. either (g i) ((c .before .either .ensures ∙ (λ j. either (h j) (k j))) i)) ∙ (framed (f .args .s .now) (f .pre) (λ p. omega (arith, c .before .before .before .before .before .before .before .before .before .before .before .before .before .shared-slice-known .given p)))
+returns-3 : tie.Need-returns-3
+returns-3 c = goes (c .before .before .before .before .before .before .before .before .before .before .test .ensures ∙ (λ i. first (test 2 1 (c .before .before .before .before .before .before .before .before .before .before .before .among .ensures i) ∷ []))) (c .before .before .before .before .before .before .before .before .if1 .left) (goes (c .before .before .before .before .before .test2 .ensures ∙ (λ i. first (test 3 2 ((c .before .before .before .before .before .before .among2 .ensures ∙ (λ j. has (c .before .before .before .before .before .before .before .details .ensures j) (value (char (c .before .before .before .before .before .before .before .before .before .before .before .before .before .before .before .before .args .s .now) 2)))) i) ∷ []))) (c .before .before .before .if2 .left) (c .test3 .ensures ∙ (λ i. first (test 4 3 ((c .before .among3 .ensures ∙ (λ j. has (c .before .before .kinds .ensures j) (value (char (c .before .before .before .before .before .before .before .before .before .before .before .before .before .before .before .before .args .s .now) 3)))) i) ∷ []))) refl) (framed (c .before .before .before .before .before .before .before .before .before .before .before .before .before .before .before .before .args .s .now) (c .before .before .before .before .before .before .before .before .before .before .before .before .before .before .before .before .pre) (λ p. omega (arith, c .before .before .before .before .before .before .before .before .before .before .before .before .before .before .before .shared-slice-known .given p)))
 
 pub frame-fault-spec : {M : Type 1} → statement M
 frame-fault-spec =
@@ -66,12 +62,12 @@ frame-fault-spec =
     shared-slice-read-kind
     among-requires
     test-requires
+    returns
     details-requires
     among-requires-2
     test-requires-2
+    returns-2
     kinds-requires
     among-requires-3
     test-requires-3
-    either-requires
-    either-requires-2
-    returns)
+    returns-3)

@@ -1,9 +1,9 @@
--- `usage::meal_fault` meets its contract: the row and the two rules after it, in order, by `Faults.meals`.
-use mathlib.Core.Path.{_∙_}
-use Rattle.cells.specs.Code.Mask.{either}
+-- The row and the two rules after it, in order, by `Faults.meals`.
+use mathlib.Core.Path.{refl}
+use Rattle.cells.proofs.Bridge.{stops, goes}
 use native.Mathlib.Omega.{arith}
-use borrow.Author.Needs.{needs}
 use Rattle.usage.proofs.Faults.{meals}
+use borrow.Author.Needs.{needs}
 use Rattle.usage.proofs.meal_fault.Statement.{statement}
 use Rattle.usage.proofs.meal_fault.Tie as tie
 
@@ -13,22 +13,20 @@ slice-aggregate-first-fault c = search needs
 first-fault-requires : tie.Need-first-fault-requires
 first-fault-requires c κs = search needs
 
+returns : tie.Need-returns
+returns c = stops _ (c .before .before .first-fault .ensures) (c .if1 .taken) (meals (c .before .before .before .before .before .args .s .now) (c .before .before .before .before .before .pre) (λ p. omega (arith, c .before .before .before .before .shared-slice-known .given p)))
+
 count-fault-requires : tie.Need-count-fault-requires
 count-fault-requires c κs = search needs
+
+returns-2 : tie.Need-returns-2
+returns-2 c = goes (c .before .before .before .before .before .first-fault .ensures) (c .before .before .before .if1 .left) (stops _ (c .before .before .count-fault .ensures) (c .if2 .taken) refl) (meals (c .before .before .before .before .before .before .before .before .args .s .now) (c .before .before .before .before .before .before .before .before .pre) (λ p. omega (arith, c .before .before .before .before .before .before .before .shared-slice-known .given p)))
 
 fifteen-fault-requires : tie.Need-fifteen-fault-requires
 fifteen-fault-requires c κs = search needs
 
-either-requires : tie.Need-either-requires
-either-requires c κs = search needs
-
-either-requires-2 : tie.Need-either-requires-2
-either-requires-2 c κs = search needs
-
-returns : tie.Need-returns
-returns c =
-    let f = c .before .before .before .before .before .before .before in
-    c .either2 .ensures ∙ (λ i. either (c .before .before .before .before .first-fault .ensures i) ((c .before .either .ensures ∙ (λ j. either (c .before .before .before .count-fault .ensures j) (c .before .before .fifteen-fault .ensures j))) i)) ∙ (meals (f .args .s .now) (f .pre) (λ p. omega (arith, c .before .before .before .before .before .before .shared-slice-known .given p)))
+returns-3 : tie.Need-returns-3
+returns-3 c = goes (c .before .before .before .before .before .before .first-fault .ensures) (c .before .before .before .before .if1 .left) (goes (c .before .before .before .count-fault .ensures) (c .before .if2 .left) (c .fifteen-fault .ensures) refl) (meals (c .before .before .before .before .before .before .before .before .before .args .s .now) (c .before .before .before .before .before .before .before .before .before .pre) (λ p. omega (arith, c .before .before .before .before .before .before .before .before .shared-slice-known .given p)))
 
 pub meal-fault-spec : {M : Type 1} → statement M
 meal-fault-spec =
@@ -36,8 +34,8 @@ meal-fault-spec =
     (tie.spec
     slice-aggregate-first-fault
     first-fault-requires
+    returns
     count-fault-requires
+    returns-2
     fifteen-fault-requires
-    either-requires
-    either-requires-2
-    returns)
+    returns-3)

@@ -1,9 +1,8 @@
--- `usage::outside_fault` meets its contract: the row and the rule after it, by `Faults.outside`.
-use mathlib.Core.Path.{_∙_}
-use Rattle.cells.specs.Code.Mask.{either}
+-- The row and the rule after it, by `Faults.outside`.
+use Rattle.cells.proofs.Bridge.{stops, goes}
 use native.Mathlib.Omega.{arith}
-use borrow.Author.Needs.{needs}
 use Rattle.usage.proofs.Faults.{outside}
+use borrow.Author.Needs.{needs}
 use Rattle.usage.proofs.outside_fault.Statement.{statement}
 use Rattle.usage.proofs.outside_fault.Tie as tie
 
@@ -13,16 +12,14 @@ slice-aggregate-first-fault c = search needs
 first-fault-requires : tie.Need-first-fault-requires
 first-fault-requires c κs = search needs
 
+returns : tie.Need-returns
+returns c = stops _ (c .before .before .first-fault .ensures) (c .if1 .taken) (outside (c .before .before .before .before .before .args .s .now) (c .before .before .before .before .before .pre) (λ p. omega (arith, c .before .before .before .before .shared-slice-known .given p)))
+
 count-fault-requires : tie.Need-count-fault-requires
 count-fault-requires c κs = search needs
 
-either-requires : tie.Need-either-requires
-either-requires c κs = search needs
-
-returns : tie.Need-returns
-returns c =
-    let f = c .before .before .before .before .before in
-    c .either .ensures ∙ (λ i. either (c .before .before .first-fault .ensures i) (c .before .count-fault .ensures i)) ∙ (outside (f .args .s .now) (f .pre) (λ p. omega (arith, c .before .before .before .before .shared-slice-known .given p)))
+returns-2 : tie.Need-returns-2
+returns-2 c = goes (c .before .before .before .first-fault .ensures) (c .before .if1 .left) (c .count-fault .ensures) (outside (c .before .before .before .before .before .before .args .s .now) (c .before .before .before .before .before .before .pre) (λ p. omega (arith, c .before .before .before .before .before .shared-slice-known .given p)))
 
 pub outside-fault-spec : {M : Type 1} → statement M
 outside-fault-spec =
@@ -30,6 +27,6 @@ outside-fault-spec =
     (tie.spec
     slice-aggregate-first-fault
     first-fault-requires
+    returns
     count-fault-requires
-    either-requires
-    returns)
+    returns-2)

@@ -1,12 +1,13 @@
--- `usage::pair_fault` meets its contract: the pair, then 0s, by `Faults.pair`.
+-- The pair, then 0s, by `Faults.pair`.
 use mathlib.Core.Path.{_∙_}
 use mathlib.Core.List.{[], _∷_}
 use Rattle.cells.specs.Test.{test, first}
 use Rattle.cells.specs.Cells.{char}
-use Rattle.cells.specs.Code.Mask.{value, has, either}
+use Rattle.cells.specs.Code.Mask.{value, has}
+use Rattle.cells.proofs.Bridge.{stops, goes}
 use native.Mathlib.Omega.{arith}
-use borrow.Author.Needs.{needs}
 use Rattle.usage.proofs.Faults.{pair}
+use borrow.Author.Needs.{needs}
 use Rattle.usage.proofs.pair_fault.Statement.{statement}
 use Rattle.usage.proofs.pair_fault.Tie as tie
 
@@ -25,20 +26,17 @@ among-requires c κs = search needs
 test-requires : tie.Need-test-requires
 test-requires c κs = search needs
 
+returns : tie.Need-returns
+returns c = stops _ (c .before .before .test .ensures ∙ (λ i. first (test 8 4 ((c .before .before .before .among .ensures ∙ (λ j. has (c .before .before .before .before .before .pairs .ensures j) (value (char (c .before .before .before .before .before .before .before .before .args .s .now) 5)))) i) ∷ []))) (c .if1 .taken) (pair (c .before .before .before .before .before .before .before .before .args .s .now) (c .before .before .before .before .before .before .before .before .pre) (λ p. omega (arith, c .before .before .before .before .before .before .before .shared-slice-known .given p)))
+
 slice-aggregate-first-fault : tie.Need-slice-aggregate-first-fault
 slice-aggregate-first-fault c = search needs
 
 first-fault-requires : tie.Need-first-fault-requires
 first-fault-requires c κs = search needs
 
-either-requires : tie.Need-either-requires
-either-requires c κs = search needs
-
-returns : tie.Need-returns
-returns c =
-    let f = c .before .before .before .before .before .before .before .before .before in
-    let g = c .before .before .before .test .ensures ∙ (λ i. first (test 8 4 ((c .before .before .before .before .among .ensures ∙ (λ j. has (c .before .before .before .before .before .before .pairs .ensures j) (value (char (f .args .s .now) 5)))) i) ∷ [])) in
-    c .either .ensures ∙ (λ i. either (g i) (c .before .first-fault .ensures i)) ∙ (pair (f .args .s .now) (f .pre) (λ p. omega (arith, c .before .before .before .before .before .before .before .before .shared-slice-known .given p)))
+returns-2 : tie.Need-returns-2
+returns-2 c = goes (c .before .before .before .before .test .ensures ∙ (λ i. first (test 8 4 ((c .before .before .before .before .before .among .ensures ∙ (λ j. has (c .before .before .before .before .before .before .before .pairs .ensures j) (value (char (c .before .before .before .before .before .before .before .before .before .before .args .s .now) 5)))) i) ∷ []))) (c .before .before .if1 .left) (c .first-fault .ensures) (pair (c .before .before .before .before .before .before .before .before .before .before .args .s .now) (c .before .before .before .before .before .before .before .before .before .before .pre) (λ p. omega (arith, c .before .before .before .before .before .before .before .before .before .shared-slice-known .given p)))
 
 pub pair-fault-spec : {M : Type 1} → statement M
 pair-fault-spec =
@@ -49,7 +47,7 @@ pair-fault-spec =
     shared-slice-read-among
     among-requires
     test-requires
+    returns
     slice-aggregate-first-fault
     first-fault-requires
-    either-requires
-    returns)
+    returns-2)
