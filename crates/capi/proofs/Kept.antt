@@ -1,17 +1,21 @@
 -- What holds of the arrays that a call leaves.
 -- Assumes nothing.
 use Prim.Native.Nat.{ℕ}
-use mathlib.Core.Path.{_≡_, refl, sym}
+use mathlib.Core.Path.{_≡_, ap, _∙_}
 use mathlib.Core.List.{List}
 use borrow.Author.Tests.{eq-eqb, ne-eqb}
 use Rattle.cells.specs.Test.{Answer}
 use Rattle.cells.specs.Writing.{Writes}
-use Rattle.reader.specs.Reader.{nextRecord}
-use Rattle.reader.specs.declared.Handed.{Handed}
+use Rattle.record.specs.declared.Record.{Record}
+use Rattle.record.specs.declared.Refusal.{Refusal}
 use Rattle.reader.specs.declared.Handed.the-variants.{Record as Hands, Refused as Refuses, End}
-use Rattle.reader.proofs.Laws.{again-refused, again-end}
-use Rattle.plain.specs.States.{readerOf}
-use Rattle.told.specs.Answers.{unless0, handedState}
+use Rattle.reader.specs.declared.Step.{Step}
+use Rattle.writer.specs.Writer.{Left}
+use Rattle.writer.specs.declared.Told.{Told}
+use Rattle.plain.specs.Records.{recordNumbers}
+use Rattle.plain.specs.States.{readerNumbers, readerOf, writerNumbers, writerOf}
+use Rattle.told.specs.Answers.{unless0, refusalNumbers, noRefusal}
+use Rattle.capi.specs.Calls.{Steps, Puts}
 
 -- A code that was written, put where it is lent: what the writer promises holds of the array, which a refusal leaves as it was.
 pub kept : {A : Type 0} {read : List ℕ → Answer A} {blank before after code : List ℕ} {x : A} {n : ℕ} → Writes A read blank x n code → after ≡ unless0 n code before → Writes A read before x n after
@@ -22,12 +26,44 @@ kept {n = n} w e =
       refuses = λ z. let r = w .refuses z in (r .0, rw (e, ne-eqb n 0 z), r .2);
     }
 
--- The state that a call of the reader leaves in the array is held as the reader's own.
-pub held-state : (s before after : List ℕ) → readerOf after ≡ nextRecord s (readerOf before) .state →
-    readerOf (handedState (nextRecord s (readerOf before) .next) after before) ≡ nextRecord s (readerOf before) .state
-held-state s before after moved = by (nextRecord s (readerOf before) .next) refl
-  where
-    by : (h : Handed) → nextRecord s (readerOf before) .next ≡ h → readerOf (handedState h after before) ≡ nextRecord s (readerOf before) .state
-    by (Hands r) e = moved
-    by (Refuses f) e = sym (again-refused s (readerOf before) f e)
-    by End e = sym (again-end s (readerOf before) e)
+-- One call of the reader, by what it hands out: a record and the state after it,
+module _ (x : Step) (state₀ numbers₀ : List ℕ) where
+  pub steps-on : (r : Record) → x .next ≡ Hands r → (state numbers : List ℕ) → (state ≡ readerNumbers (x .state)) × (readerOf state ≡ x .state) →
+      numbers ≡ recordNumbers r → Steps x state₀ numbers₀ 0 noRefusal state numbers
+  steps-on r h state numbers e n =
+      record { returns = rw h; refuses = rw h; moves = rw h (e .0); leaves = rw h n; holds = e .1 }
+
+  -- a refusal, which leaves both arrays as they were,
+  pub steps-refused : (f : Refusal) → x .next ≡ Refuses f → (told : List ℕ) → told ≡ refusalNumbers f → readerOf state₀ ≡ x .state →
+      Steps x state₀ numbers₀ (f .number) told state₀ numbers₀
+  steps-refused f h told e z = record { returns = rw h; refuses = rw h e; moves = rw h; leaves = rw h; holds = z }
+
+  -- and so does the end.
+  pub steps-end : x .next ≡ End → readerOf state₀ ≡ x .state → Steps x state₀ numbers₀ 255 noRefusal state₀ numbers₀
+  steps-end h z = record { returns = rw h; refuses = rw h; moves = rw h; leaves = rw h; holds = z }
+
+-- One call of the writer: what it wrote, and the state after it,
+module _ (l : Left) (p : Told) (buffer : List ℕ) (e : record { put = p; buffer = buffer } ≡ l) (state₀ : List ℕ) where
+  pub puts-on : p .number ≡ 0 → (state : List ℕ) → (state ≡ writerNumbers (p .state)) × (writerOf state ≡ p .state) →
+      Puts l state₀ (p .number) (p .own) buffer state
+  unfolding unless0
+  puts-on z state n =
+      record {
+        returns = ap (λ (x : Left). x .put .number) e;
+        tells = ap (λ (x : Left). x .put .own) e;
+        writes = ap (λ (x : Left). x .buffer) e;
+        moves = rw (← e, eq-eqb (p .number) 0 z) (n .0);
+        holds = λ y. n .1 ∙ ap (λ (x : Left). x .put .state) e;
+      }
+
+  -- or a refusal, which leaves the state as it was.
+  pub puts-refused : (p .number ≡ 0 → ⊥) → Puts l state₀ (p .number) (p .own) buffer state₀
+  unfolding unless0
+  puts-refused z =
+      record {
+        returns = ap (λ (x : Left). x .put .number) e;
+        tells = ap (λ (x : Left). x .put .own) e;
+        writes = ap (λ (x : Left). x .buffer) e;
+        moves = rw (← e, ne-eqb (p .number) 0 z);
+        holds = λ y. absurd (z y);
+      }

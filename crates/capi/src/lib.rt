@@ -1,6 +1,7 @@
 // The public operations for C and Rust, on numbers and bytes. include/yawsimbel.h has the layout of each array. A refusal leaves every lent
 // array as it was, but for the one that says where and why.
 use days::DaySet;
+use reader::Handed;
 ghost use Rattle.cells.specs.Writing.{Writes};
 ghost use Rattle.usage.specs.Usage.{readUsage};
 ghost use Rattle.usage.specs.declared.Instruction.{Instruction};
@@ -131,12 +132,24 @@ pub extern "C" fn yws_sheet_next(
     ensures { λ r. ⌜ Steps (nextRecord (now (file .entry)) (readerOf (now (state .entry)))) (now (state .entry)) (now (numbers .entry)) r (now (refusal .exit)) (now (state .exit)) (now (numbers .exit)) ⌝ }
 {
     let step = reader::next(file, plain::reader_state(state));
-    let h = step.next;
+    let handed = step.next;
     let t = step.state;
-    *state = told::handed_state(h, plain::reader_numbers(t), *state);
-    *numbers = told::handed_record(h, *numbers);
-    *refusal = told::handed_refusal(h);
-    told::handed_number(h)
+    match handed {
+        Handed::Record(r) => {
+            *state = plain::reader_numbers(t);
+            *numbers = plain::record_numbers(r);
+            *refusal = [0; 4];
+            0
+        }
+        Handed::Refused(f) => {
+            *refusal = told::refusal_numbers(f);
+            f.number
+        }
+        Handed::End => {
+            *refusal = [0; 4];
+            255
+        }
+    }
 }
 
 // ---- sheets, written
@@ -170,8 +183,10 @@ pub extern "C" fn yws_writer_put(
         lent,
     );
     let t = put.state;
-    *state = told::state_after(put.number, plain::writer_numbers(t), *state);
     *own = put.own as u64;
+    if put.number == 0 {
+        *state = plain::writer_numbers(t);
+    }
     put.number
 }
 
@@ -182,8 +197,10 @@ pub extern "C" fn yws_writer_close(out: &mut [u8], state: &mut [u64; 11], own: &
 {
     let closed = writer::close(out, plain::writer_state(state));
     let t = closed.state;
-    *state = told::state_after(closed.number, plain::writer_numbers(t), *state);
     *own = closed.own as u64;
+    if closed.number == 0 {
+        *state = plain::writer_numbers(t);
+    }
     closed.number
 }
 

@@ -3,14 +3,13 @@ use date::Date;
 use date::Made;
 use days::Wrote;
 use reader::Checked;
-use reader::Handed;
 use record::Refusal;
 ghost use mathlib.Core.Path.{_≡_};
 ghost use Rattle.usage.specs.Usage.{said as saidUsage};
 ghost use Rattle.supplement.specs.Supplement.{said as saidSupplement};
 ghost use Rattle.days.specs.Set.{said as saidSet};
 ghost use Rattle.plain.specs.Codes.{usageNumbers, supplementNumbers};
-ghost use Rattle.told.specs.Answers.{unless0, number, place, orBefore, orCount, refusalNumbers, checkedNumber, checkedRecords, checkedRefusal, handedNumber, handedRecord, handedRefusal, handedState, makeStyled, madeNumber, madeNumbers, madeText};
+ghost use Rattle.told.specs.Answers.{unless0, number, place, orBefore, orCount, refusalNumbers, checkedNumber, checkedRecords, checkedRefusal, makeStyled, madeNumber, madeNumbers, madeText};
 
 // ---- usage codes
 
@@ -153,57 +152,6 @@ pub fn checked_refusal(r: Checked) -> [u64; 4]
         Checked::Records(_) => [0; 4],
         Checked::Refused(f) => refusal_numbers(f),
     }
-}
-
-pub fn handed_number(h: Handed) -> u8
-    ensures { λ n. ⌜ n ≡ handedNumber h ⌝ }
-{
-    match h {
-        Handed::Record(_) => 0,
-        Handed::Refused(f) => f.number,
-        Handed::End => 255,
-    }
-}
-
-pub fn handed_record(h: Handed, before: [u64; 31]) -> [u64; 31]
-    ensures { λ n. ⌜ n ≡ handedRecord h before ⌝ }
-{
-    match h {
-        Handed::Record(r) => plain::record_numbers(r),
-        Handed::Refused(_) => before,
-        Handed::End => before,
-    }
-}
-
-pub fn handed_refusal(h: Handed) -> [u64; 4]
-    ensures { λ n. ⌜ n ≡ handedRefusal h ⌝ }
-{
-    match h {
-        Handed::Record(_) => [0; 4],
-        Handed::Refused(f) => refusal_numbers(f),
-        Handed::End => [0; 4],
-    }
-}
-
-pub fn handed_state(h: Handed, after: [u64; 11], before: [u64; 11]) -> [u64; 11]
-    ensures { λ n. ⌜ n ≡ handedState h after before ⌝ }
-{
-    match h {
-        Handed::Record(_) => after,
-        Handed::Refused(_) => before,
-        Handed::End => before,
-    }
-}
-
-// ---- sheets, written
-
-pub fn state_after(refusal: u8, after: [u64; 11], before: [u64; 11]) -> [u64; 11]
-    ensures { λ r. ⌜ r ≡ unless0 refusal after before ⌝ }
-{
-    if refusal == 0 {
-        return after;
-    }
-    before
 }
 
 // ---- dates

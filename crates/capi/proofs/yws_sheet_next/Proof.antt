@@ -1,10 +1,10 @@
--- By the calls.
-use mathlib.Core.Path.{_≡_, _∙_, ap}
+-- By what the call hands out.
+use mathlib.Core.Path.{_≡_, _∙_, ap, sym}
 use Rattle.reader.specs.Reader.{nextRecord}
 use Rattle.reader.specs.declared.Step.{Step}
+use Rattle.reader.proofs.Laws.{again-refused, again-end}
 use Rattle.plain.specs.States.{readerNumbers, readerOf}
-use Rattle.told.specs.Answers.{handedNumber, handedRecord, handedRefusal, handedState}
-use Rattle.capi.proofs.Kept.{held-state}
+use Rattle.capi.proofs.Kept.{steps-on, steps-refused, steps-end}
 use borrow.Author.Needs.{needs}
 use Rattle.capi.proofs.yws_sheet_next.Statement.{statement}
 use Rattle.capi.proofs.yws_sheet_next.Tie as tie
@@ -15,39 +15,48 @@ reader-state-requires c κs = search needs
 next-requires : tie.Need-next-requires
 next-requires c κs = search needs
 
+enum-known-handed : tie.Need-enum-known-handed
+enum-known-handed c = search needs
+
 reader-numbers-requires : tie.Need-reader-numbers-requires
 reader-numbers-requires c κs = search needs
 
-handed-state-requires : tie.Need-handed-state-requires
-handed-state-requires c κs = search needs
+record-numbers-requires : tie.Need-record-numbers-requires
+record-numbers-requires c κs = search needs
 
-handed-record-requires : tie.Need-handed-record-requires
-handed-record-requires c κs = search needs
+enum-known-handed-2 : tie.Need-enum-known-handed-2
+enum-known-handed-2 c = search needs
 
-handed-refusal-requires : tie.Need-handed-refusal-requires
-handed-refusal-requires c κs = search needs
+refusal-numbers-requires : tie.Need-refusal-numbers-requires
+refusal-numbers-requires c κs = search needs
 
-handed-number-requires : tie.Need-handed-number-requires
-handed-number-requires c κs = search needs
+enum-told : tie.Need-enum-told
+enum-told c = search needs
 
 returns : tie.Need-returns
 returns c =
-    let a = c .before .before .before .before .before .before .before .before .before .before .before .before .before .args in
-    let n = c .before .before .before .before .before .before .reader-numbers in
-    let e : c .before .before .before .before .before .before .before .before .next .result ≡ nextRecord (a .file .now) (readerOf (a .state .now)) =
-    c .before .before .before .before .before .before .before .before .next .ensures ∙ (λ i. nextRecord (a .file .now) (c .before .before .before .before .before .before .before .before .before .reader-state .ensures i))
-    in
-    let k : readerOf (n .result) ≡ nextRecord (a .file .now) (readerOf (a .state .now)) .state = n .ensures .1 ∙ ap (λ (x : Step). x .state) e in
-    let m : c .before .before .before .before .handed-state .result ≡ handedState (nextRecord (a .file .now) (readerOf (a .state .now)) .next) (n .result) (a .state .now) =
-    c .before .before .before .before .handed-state .ensures ∙ (λ i. handedState (e i .next) (n .result) (a .state .now))
-    in
-    record {
-      returns = c .handed-number .ensures ∙ (λ i. handedNumber (e i .next));
-      refuses = c .before .handed-refusal .ensures ∙ (λ i. handedRefusal (e i .next));
-      moves = m ∙ (λ i. handedState (nextRecord (a .file .now) (readerOf (a .state .now)) .next) ((n .ensures .0 ∙ (λ j. readerNumbers (e j .state))) i) (a .state .now));
-      leaves = c .before .before .handed-record .ensures ∙ (λ i. handedRecord (e i .next) (a .numbers .now));
-      holds = ap readerOf m ∙ held-state (a .file .now) (a .state .now) (n .result) k;
-    }
+    let a = c .before .before .before .before .before .before .before .before .before .before .before .before .args in
+    let e : c .before .before .before .before .before .before .before .next .result ≡ nextRecord (a .file .now) (readerOf (a .state .now)) =
+    c .before .before .before .before .before .before .before .next .ensures ∙ (λ i. nextRecord (a .file .now) (c .before .before .before .before .before .before .before .before .reader-state .ensures i)) in
+    let h = ap (λ (x : Step). x .next) (sym e) ∙ c .before .before .before .before .handed .given .1 in
+    let n = c .before .before .reader-numbers .ensures in
+    steps-on _ (a .state .now) (a .numbers .now) _ h _ _ (n .0 ∙ ap (λ (x : Step). readerNumbers (x .state)) e, n .1 ∙ ap (λ (x : Step). x .state) e) (c .before .record-numbers .ensures)
+
+returns-2 : tie.Need-returns-2
+returns-2 c =
+    let a = c .before .before .before .before .before .before .before .before .before .before .args in
+    let e : c .before .before .before .before .before .next .result ≡ nextRecord (a .file .now) (readerOf (a .state .now)) =
+    c .before .before .before .before .before .next .ensures ∙ (λ i. nextRecord (a .file .now) (c .before .before .before .before .before .before .reader-state .ensures i)) in
+    let h = ap (λ (x : Step). x .next) (sym e) ∙ c .before .before .handed2 .given .1 in
+    steps-refused _ (a .state .now) (a .numbers .now) _ h _ (c .refusal-numbers .ensures) (sym (again-refused (a .file .now) (readerOf (a .state .now)) _ h))
+
+returns-3 : tie.Need-returns-3
+returns-3 c =
+    let a = c .before .before .before .before .before .before .before .before .before .args in
+    let e : c .before .before .before .before .next .result ≡ nextRecord (a .file .now) (readerOf (a .state .now)) =
+    c .before .before .before .before .next .ensures ∙ (λ i. nextRecord (a .file .now) (c .before .before .before .before .before .reader-state .ensures i)) in
+    let h = ap (λ (x : Step). x .next) (sym e) ∙ c .before .enum-told .given .1 in
+    steps-end _ (a .state .now) (a .numbers .now) h (sym (again-end (a .file .now) (readerOf (a .state .now)) h))
 
 pub yws-sheet-next-spec : {M : Type 1} → statement M
 yws-sheet-next-spec =
@@ -55,9 +64,12 @@ yws-sheet-next-spec =
     (tie.spec
     reader-state-requires
     next-requires
+    enum-known-handed
     reader-numbers-requires
-    handed-state-requires
-    handed-record-requires
-    handed-refusal-requires
-    handed-number-requires
-    returns)
+    record-numbers-requires
+    enum-known-handed-2
+    refusal-numbers-requires
+    enum-told
+    returns
+    returns-2
+    returns-3)

@@ -1,9 +1,8 @@
--- By the calls.
-use mathlib.Core.Path.{_≡_, _∙_, ap}
-use Rattle.writer.specs.Writer.{Left, closeBuffer}
-use Rattle.plain.specs.States.{writerNumbers, writerOf}
-use Rattle.told.specs.Answers.{unless0}
-use borrow.Author.Tests.{eq-eqb}
+-- By whether it was closed.
+use mathlib.Core.Path.{_≡_, _∙_}
+use Rattle.plain.specs.States.{writerOf}
+use Rattle.writer.specs.Writer.{closeBuffer}
+use Rattle.capi.proofs.Kept.{puts-on, puts-refused}
 use borrow.Author.Needs.{needs}
 use Rattle.capi.proofs.yws_writer_close.Statement.{statement}
 use Rattle.capi.proofs.yws_writer_close.Tie as tie
@@ -14,37 +13,35 @@ writer-state-requires c κs = search needs
 close-requires : tie.Need-close-requires
 close-requires c κs = search needs
 
-writer-numbers-requires : tie.Need-writer-numbers-requires
-writer-numbers-requires c κs = search needs
-
-state-after-requires : tie.Need-state-after-requires
-state-after-requires c κs = search needs
-
 cast-own : tie.Need-cast-own
 cast-own c = search needs
+
+writer-numbers-requires : tie.Need-writer-numbers-requires
+writer-numbers-requires c κs = search needs
 
 same-length : tie.Need-same-length
 same-length c = search needs
 
 returns : tie.Need-returns
-unfolding unless0
 returns c =
     let a = c .before .before .before .before .before .before .before .before .before .before .before .before .before .args in
     let w = c .before .before .before .before .before .before .before .close in
-    let n = c .before .before .before .writer-numbers in
     let e : record { put = w .result; buffer = w .last .0 } ≡ closeBuffer (a .out .now) (writerOf (a .state .now)) =
     w .ensures ∙ (λ i. closeBuffer (a .out .now) (c .before .before .before .before .before .before .before .before .writer-state .ensures i))
     in
-    record {
-      returns = ap (λ (l : Left). l .put .number) e;
-      tells = ap (λ (l : Left). l .put .own) e;
-      writes = ap (λ (l : Left). l .buffer) e;
-      moves =
-          c .before .state-after .ensures ∙
-          (λ i. unless0 (w .result .number) (n .ensures .0 i) (a .state .now)) ∙
-          (λ i. unless0 (e i .put .number) (writerNumbers (e i .put .state)) (a .state .now));
-      holds = λ z. rw (c .before .state-after .ensures, eq-eqb (w .result .number) 0 z) (n .ensures .1 ∙ ap (λ (l : Left). l .put .state) e);
-    }
+    puts-on _ (w .result) _ e (a .state .now) (c .before .if1 .taken) _ (c .writer-numbers .ensures)
+
+same-length-2 : tie.Need-same-length-2
+same-length-2 c = search needs
+
+returns-2 : tie.Need-returns-2
+returns-2 c =
+    let a = c .before .before .before .before .before .before .before .before .before .before .before .before .args in
+    let w = c .before .before .before .before .before .before .close in
+    let e : record { put = w .result; buffer = w .last .0 } ≡ closeBuffer (a .out .now) (writerOf (a .state .now)) =
+    w .ensures ∙ (λ i. closeBuffer (a .out .now) (c .before .before .before .before .before .before .before .writer-state .ensures i))
+    in
+    puts-refused _ (w .result) _ e (a .state .now) (c .if1 .left)
 
 pub yws-writer-close-spec : {M : Type 1} → statement M
 yws-writer-close-spec =
@@ -52,8 +49,9 @@ yws-writer-close-spec =
     (tie.spec
     writer-state-requires
     close-requires
-    writer-numbers-requires
-    state-after-requires
     cast-own
+    writer-numbers-requires
     same-length
-    returns)
+    returns
+    same-length-2
+    returns-2)
