@@ -137,7 +137,7 @@ pub extern "C" fn yws_sheet_next(
     match handed {
         Handed::Record(r) => {
             *state = plain::reader_numbers(t);
-            *numbers = plain::record_numbers(r);
+            plain::record_numbers(r, numbers);
             *refusal = [0; 4];
             0
         }
