@@ -4,7 +4,7 @@ use Prim.Native.Nat.{ℕ}
 use mathlib.Core.Path.{_≡_, ap, _∙_}
 use mathlib.Core.List.{List}
 use borrow.Author.Tests.{eq-eqb, ne-eqb}
-use Rattle.cells.specs.Test.{Answer}
+use Rattle.cells.specs.Test.{Answer, took, refused}
 use Rattle.cells.specs.Writing.{Writes}
 use Rattle.record.specs.declared.Record.{Record}
 use Rattle.record.specs.declared.Refusal.{Refusal}
@@ -15,7 +15,16 @@ use Rattle.writer.specs.declared.Told.{Told}
 use Rattle.plain.specs.Records.{recordNumbers}
 use Rattle.plain.specs.States.{readerNumbers, readerOf, writerNumbers, writerOf}
 use Rattle.told.specs.Answers.{unless0, refusalNumbers, noRefusal}
-use Rattle.capi.specs.Calls.{Steps, Puts}
+use Rattle.capi.specs.Calls.{Reads, Steps, Puts}
+
+-- A code that was read: one that is taken is told as its numbers,
+module _ {A : Type 0} {numbersOf : A → List ℕ} {answer : Answer A} (before : List ℕ) where
+  pub reads-taken : {a : A} {after : List ℕ} → answer ≡ took a → after ≡ numbersOf a → Reads A numbersOf answer before 0 0 after
+  reads-taken h e = record { returns = rw h; places = rw h; leaves = rw h e }
+
+  -- and a refusal leaves the array as it was.
+  pub reads-refused : {n p : ℕ} → answer ≡ refused n p → Reads A numbersOf answer before n p before
+  reads-refused h = record { returns = rw h; places = rw h; leaves = rw h }
 
 -- A code that was written, put where it is lent: what the writer promises holds of the array, which a refusal leaves as it was.
 pub kept : {A : Type 0} {read : List ℕ → Answer A} {blank before after code : List ℕ} {x : A} {n : ℕ} → Writes A read blank x n code → after ≡ unless0 n code before → Writes A read before x n after

@@ -24,10 +24,17 @@ ghost use Rattle.capi.specs.Calls.{Reads, ReadsRun, TellsSet, Checks, Op
 pub extern "C" fn yws_usage_read(code: &[u8], numbers: &mut [u64; 25], place: &mut u64) -> u8
     ensures { λ r. ⌜ Reads Instruction usageNumbers (readUsage (now (code .entry))) (now (numbers .entry)) r (now (place .exit)) (now (numbers .exit)) ⌝ }
 {
-    let u = usage::read(code);
-    *place = told::usage_place(u);
-    *numbers = told::usage_after(u, *numbers);
-    told::usage_number(u)
+    match usage::read(code) {
+        usage::Reading::Taken(i) => {
+            *place = 0;
+            *numbers = plain::usage_numbers(i);
+            0
+        }
+        usage::Reading::Refused(f) => {
+            *place = f.place as u64;
+            f.number
+        }
+    }
 }
 
 // Writes a usage code.
@@ -49,10 +56,17 @@ pub extern "C" fn yws_usage_write(numbers: &[u64; 25], code: &mut [u8; 16]) -> u
 pub extern "C" fn yws_supplement_read(code: &[u8], numbers: &mut [u64; 22], place: &mut u64) -> u8
     ensures { λ r. ⌜ Reads Supplement supplementNumbers (readSupplement (now (code .entry))) (now (numbers .entry)) r (now (place .exit)) (now (numbers .exit)) ⌝ }
 {
-    let u = supplement::read(code);
-    *place = told::supplement_place(u);
-    *numbers = told::supplement_after(u, *numbers);
-    told::supplement_number(u)
+    match supplement::read(code) {
+        supplement::Reading::Taken(x) => {
+            *place = 0;
+            *numbers = plain::supplement_numbers(x);
+            0
+        }
+        supplement::Reading::Refused(f) => {
+            *place = f.place as u64;
+            f.number
+        }
+    }
 }
 
 // Writes a supplementary code.
