@@ -43,10 +43,12 @@ pub extern "C" fn yws_usage_write(numbers: &[u64; 25], code: &mut [u8; 16]) -> u
     ensures { λ r. ⌜ Writes Instruction readUsage (now (code .entry)) (instructionOf (now (numbers .entry))) r (now (code .exit)) ⌝ }
 {
     let i = plain::instruction(numbers);
-    let w = usage_writer::write(i);
-    let written = w.code;
-    *code = told::sixteen_after(w.number, written, *code);
-    w.number
+    let u = usage_writer::write(i);
+    if u.number == 0 {
+        let written = u.code;
+        *code = written;
+    }
+    u.number
 }
 
 // ---- supplementary codes
@@ -75,10 +77,12 @@ pub extern "C" fn yws_supplement_write(numbers: &[u64; 22], code: &mut [u8; 8]) 
     ensures { λ r. ⌜ Writes Supplement readSupplement (now (code .entry)) (supplementOf (now (numbers .entry))) r (now (code .exit)) ⌝ }
 {
     let x = plain::supplement(numbers);
-    let w = supplement_writer::write(x);
-    let written = w.code;
-    *code = told::eight_after(w.number, written, *code);
-    w.number
+    let s = supplement_writer::write(x);
+    if s.number == 0 {
+        let written = s.code;
+        *code = written;
+    }
+    s.number
 }
 
 // ---- runs and sets of days
@@ -95,9 +99,11 @@ pub extern "C" fn yws_run_read(
 {
     let run = days::read_run(issue, codes);
     let set = run.days;
-    let cells = set.cells;
     *refusal = [run.place as u64, run.code as u64];
-    *days = told::days_after(run.number, cells, *days);
+    if run.number == 0 {
+        let cells = set.cells;
+        *days = cells;
+    }
     run.number
 }
 

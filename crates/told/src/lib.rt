@@ -6,41 +6,9 @@ use reader::Checked;
 use record::Refusal;
 ghost use mathlib.Core.Path.{_≡_};
 ghost use Rattle.days.specs.Set.{said};
-ghost use Rattle.told.specs.Answers.{unless0, number, orCount, refusalNumbers, checkedNumber, checkedRecords, checkedRefusal, makeStyled, madeNumber, madeNumbers, madeText};
-
-// ---- usage codes
-
-// What was written; after a refusal what was there, here and below.
-pub fn sixteen_after(refusal: u8, written: [u8; 16], before: [u8; 16]) -> [u8; 16]
-    ensures { λ r. ⌜ r ≡ unless0 refusal written before ⌝ }
-{
-    if refusal == 0 {
-        return written;
-    }
-    before
-}
-
-// ---- supplementary codes
-
-pub fn eight_after(refusal: u8, written: [u8; 8], before: [u8; 8]) -> [u8; 8]
-    ensures { λ r. ⌜ r ≡ unless0 refusal written before ⌝ }
-{
-    if refusal == 0 {
-        return written;
-    }
-    before
-}
+ghost use Rattle.told.specs.Answers.{number, orCount, refusalNumbers, checkedNumber, checkedRecords, checkedRefusal, makeStyled, madeNumber, madeNumbers, madeText};
 
 // ---- runs and sets of days
-
-pub fn days_after(refusal: u8, read: [u32; 13], before: [u32; 13]) -> [u32; 13]
-    ensures { λ r. ⌜ r ≡ unless0 refusal read before ⌝ }
-{
-    if refusal == 0 {
-        return read;
-    }
-    before
-}
 
 // The number of an answer: 0, or the refusal's.
 pub fn wrote_number(w: Wrote) -> u8
@@ -52,6 +20,7 @@ pub fn wrote_number(w: Wrote) -> u8
     }
 }
 
+// How many codes; after a refusal what was there, here and below.
 pub fn count_after(w: Wrote, before: u64) -> u64
     ensures { λ r. ⌜ r ≡ orCount (said w) before ⌝ }
 {
