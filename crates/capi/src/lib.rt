@@ -24,10 +24,17 @@ ghost use Rattle.capi.specs.Calls.{Reads, ReadsRun, TellsSet, Checks, Op
 pub extern "C" fn yws_usage_read(code: &[u8], numbers: &mut [u64; 25], place: &mut u64) -> u8
     ensures { λ r. ⌜ Reads Instruction usageNumbers (readUsage (now (code .entry))) (now (numbers .entry)) r (now (place .exit)) (now (numbers .exit)) ⌝ }
 {
-    let u = usage::read(code);
-    *place = told::usage_place(u);
-    *numbers = told::usage_after(u, *numbers);
-    told::usage_number(u)
+    match usage::read(code) {
+        usage::Reading::Taken(i) => {
+            *place = 0;
+            *numbers = plain::usage_numbers(i);
+            0
+        }
+        usage::Reading::Refused(f) => {
+            *place = f.place as u64;
+            f.number
+        }
+    }
 }
 
 // Writes a usage code.
@@ -36,10 +43,12 @@ pub extern "C" fn yws_usage_write(numbers: &[u64; 25], code: &mut [u8; 16]) -> u
     ensures { λ r. ⌜ Writes Instruction readUsage (now (code .entry)) (instructionOf (now (numbers .entry))) r (now (code .exit)) ⌝ }
 {
     let i = plain::instruction(numbers);
-    let w = usage_writer::write(i);
-    let written = w.code;
-    *code = told::sixteen_after(w.number, written, *code);
-    w.number
+    let u = usage_writer::write(i);
+    if u.number == 0 {
+        let written = u.code;
+        *code = written;
+    }
+    u.number
 }
 
 // ---- supplementary codes
@@ -49,10 +58,17 @@ pub extern "C" fn yws_usage_write(numbers: &[u64; 25], code: &mut [u8; 16]) -> u
 pub extern "C" fn yws_supplement_read(code: &[u8], numbers: &mut [u64; 22], place: &mut u64) -> u8
     ensures { λ r. ⌜ Reads Supplement supplementNumbers (readSupplement (now (code .entry))) (now (numbers .entry)) r (now (place .exit)) (now (numbers .exit)) ⌝ }
 {
-    let u = supplement::read(code);
-    *place = told::supplement_place(u);
-    *numbers = told::supplement_after(u, *numbers);
-    told::supplement_number(u)
+    match supplement::read(code) {
+        supplement::Reading::Taken(x) => {
+            *place = 0;
+            *numbers = plain::supplement_numbers(x);
+            0
+        }
+        supplement::Reading::Refused(f) => {
+            *place = f.place as u64;
+            f.number
+        }
+    }
 }
 
 // Writes a supplementary code.
@@ -61,10 +77,12 @@ pub extern "C" fn yws_supplement_write(numbers: &[u64; 22], code: &mut [u8; 8]) 
     ensures { λ r. ⌜ Writes Supplement readSupplement (now (code .entry)) (supplementOf (now (numbers .entry))) r (now (code .exit)) ⌝ }
 {
     let x = plain::supplement(numbers);
-    let w = supplement_writer::write(x);
-    let written = w.code;
-    *code = told::eight_after(w.number, written, *code);
-    w.number
+    let s = supplement_writer::write(x);
+    if s.number == 0 {
+        let written = s.code;
+        *code = written;
+    }
+    s.number
 }
 
 // ---- runs and sets of days
@@ -81,9 +99,11 @@ pub extern "C" fn yws_run_read(
 {
     let run = days::read_run(issue, codes);
     let set = run.days;
-    let cells = set.cells;
     *refusal = [run.place as u64, run.code as u64];
-    *days = told::days_after(run.number, cells, *days);
+    if run.number == 0 {
+        let cells = set.cells;
+        *days = cells;
+    }
     run.number
 }
 
@@ -137,7 +157,7 @@ pub extern "C" fn yws_sheet_next(
     match handed {
         Handed::Record(r) => {
             *state = plain::reader_numbers(t);
-            *numbers = plain::record_numbers(r);
+            plain::record_numbers(r, numbers);
             *refusal = [0; 4];
             0
         }

@@ -536,17 +536,29 @@ fn numbers_kept(x: Kept) -> [u64; 31]
     ]
 }
 
-// A record's number, then its fields in the order of document 01's table, then 0s.
-pub fn record_numbers(r: Record) -> [u64; 31]
-    ensures { λ n. ⌜ n ≡ recordNumbers r ⌝ }
+// A record's number, then its fields in the order of document 01's table, then 0s, in the caller's array.
+pub fn record_numbers(r: Record, n: &mut [u64; 31])
+    ensures { λ _. ⌜ now (n .exit) ≡ recordNumbers r ⌝ }
 {
     match r {
-        Record::Issue(x) => numbers_51(x),
-        Record::Rp(x) => numbers_101(x),
-        Record::Usage(x) => numbers_111(x),
-        Record::Supplement(x) => numbers_181(x),
-        Record::Drug(x) => numbers_201(x),
-        Record::Kept(x) => numbers_kept(x),
+        Record::Issue(x) => {
+            *n = numbers_51(x);
+        }
+        Record::Rp(x) => {
+            *n = numbers_101(x);
+        }
+        Record::Usage(x) => {
+            *n = numbers_111(x);
+        }
+        Record::Supplement(x) => {
+            *n = numbers_181(x);
+        }
+        Record::Drug(x) => {
+            *n = numbers_201(x);
+        }
+        Record::Kept(x) => {
+            *n = numbers_kept(x);
+        }
     }
 }
 

@@ -5,104 +5,14 @@ use days::Wrote;
 use reader::Checked;
 use record::Refusal;
 ghost use mathlib.Core.Path.{_≡_};
-ghost use Rattle.usage.specs.Usage.{said as saidUsage};
-ghost use Rattle.supplement.specs.Supplement.{said as saidSupplement};
-ghost use Rattle.days.specs.Set.{said as saidSet};
-ghost use Rattle.plain.specs.Codes.{usageNumbers, supplementNumbers};
-ghost use Rattle.told.specs.Answers.{unless0, number, place, orBefore, orCount, refusalNumbers, checkedNumber, checkedRecords, checkedRefusal, makeStyled, madeNumber, madeNumbers, madeText};
-
-// ---- usage codes
-
-// The number of an answer: 0, or the refusal's.
-pub fn usage_number(u: usage::Reading) -> u8
-    ensures { λ r. ⌜ r ≡ number (saidUsage u) ⌝ }
-{
-    match u {
-        usage::Reading::Taken(_) => 0,
-        usage::Reading::Refused(f) => f.number,
-    }
-}
-
-// Its place; 0 where it was taken.
-pub fn usage_place(u: usage::Reading) -> u64
-    ensures { λ r. ⌜ r ≡ place (saidUsage u) ⌝ }
-{
-    match u {
-        usage::Reading::Taken(_) => 0,
-        usage::Reading::Refused(f) => f.place as u64,
-    }
-}
-
-// What was read as numbers; after a refusal what was there, here and below.
-pub fn usage_after(u: usage::Reading, before: [u64; 25]) -> [u64; 25]
-    ensures { λ r. ⌜ r ≡ orBefore usageNumbers (saidUsage u) before ⌝ }
-{
-    match u {
-        usage::Reading::Taken(i) => plain::usage_numbers(i),
-        usage::Reading::Refused(_) => before,
-    }
-}
-
-pub fn sixteen_after(refusal: u8, written: [u8; 16], before: [u8; 16]) -> [u8; 16]
-    ensures { λ r. ⌜ r ≡ unless0 refusal written before ⌝ }
-{
-    if refusal == 0 {
-        return written;
-    }
-    before
-}
-
-// ---- supplementary codes
-
-pub fn supplement_number(u: supplement::Reading) -> u8
-    ensures { λ r. ⌜ r ≡ number (saidSupplement u) ⌝ }
-{
-    match u {
-        supplement::Reading::Taken(_) => 0,
-        supplement::Reading::Refused(f) => f.number,
-    }
-}
-
-pub fn supplement_place(u: supplement::Reading) -> u64
-    ensures { λ r. ⌜ r ≡ place (saidSupplement u) ⌝ }
-{
-    match u {
-        supplement::Reading::Taken(_) => 0,
-        supplement::Reading::Refused(f) => f.place as u64,
-    }
-}
-
-pub fn supplement_after(u: supplement::Reading, before: [u64; 22]) -> [u64; 22]
-    ensures { λ r. ⌜ r ≡ orBefore supplementNumbers (saidSupplement u) before ⌝ }
-{
-    match u {
-        supplement::Reading::Taken(x) => plain::supplement_numbers(x),
-        supplement::Reading::Refused(_) => before,
-    }
-}
-
-pub fn eight_after(refusal: u8, written: [u8; 8], before: [u8; 8]) -> [u8; 8]
-    ensures { λ r. ⌜ r ≡ unless0 refusal written before ⌝ }
-{
-    if refusal == 0 {
-        return written;
-    }
-    before
-}
+ghost use Rattle.days.specs.Set.{said};
+ghost use Rattle.told.specs.Answers.{number, orCount, refusalNumbers, checkedNumber, checkedRecords, checkedRefusal, makeStyled, madeNumber, madeNumbers, madeText};
 
 // ---- runs and sets of days
 
-pub fn days_after(refusal: u8, read: [u32; 13], before: [u32; 13]) -> [u32; 13]
-    ensures { λ r. ⌜ r ≡ unless0 refusal read before ⌝ }
-{
-    if refusal == 0 {
-        return read;
-    }
-    before
-}
-
+// The number of an answer: 0, or the refusal's.
 pub fn wrote_number(w: Wrote) -> u8
-    ensures { λ r. ⌜ r ≡ number (saidSet w) ⌝ }
+    ensures { λ r. ⌜ r ≡ number (said w) ⌝ }
 {
     match w {
         Wrote::Codes(_) => 0,
@@ -110,8 +20,9 @@ pub fn wrote_number(w: Wrote) -> u8
     }
 }
 
+// How many codes; after a refusal what was there, here and below.
 pub fn count_after(w: Wrote, before: u64) -> u64
-    ensures { λ r. ⌜ r ≡ orCount (saidSet w) before ⌝ }
+    ensures { λ r. ⌜ r ≡ orCount (said w) before ⌝ }
 {
     match w {
         Wrote::Codes(n) => n as u64,

@@ -35,11 +35,11 @@ enum-told c = search needs
 
 returns : tie.Need-returns
 returns c =
-    let a = c .before .before .before .before .before .before .before .before .before .before .before .before .args in
-    let e : c .before .before .before .before .before .before .before .next .result ≡ nextRecord (a .file .now) (readerOf (a .state .now)) =
-    c .before .before .before .before .before .before .before .next .ensures ∙ (λ i. nextRecord (a .file .now) (c .before .before .before .before .before .before .before .before .reader-state .ensures i)) in
-    let h = ap (λ (x : Step). x .next) (sym e) ∙ c .before .before .before .before .handed .given .1 in
-    let n = c .before .before .reader-numbers .ensures in
+    let a = c .before .before .before .before .before .before .before .before .before .before .before .before .before .args in
+    let e : c .before .before .before .before .before .before .before .before .next .result ≡ nextRecord (a .file .now) (readerOf (a .state .now)) =
+    c .before .before .before .before .before .before .before .before .next .ensures ∙ (λ i. nextRecord (a .file .now) (c .before .before .before .before .before .before .before .before .before .reader-state .ensures i)) in
+    let h = ap (λ (x : Step). x .next) (sym e) ∙ c .before .before .before .before .before .handed .given .1 in
+    let n = c .before .before .before .reader-numbers .ensures in
     steps-on _ (a .state .now) (a .numbers .now) _ h _ _ (n .0 ∙ ap (λ (x : Step). readerNumbers (x .state)) e, n .1 ∙ ap (λ (x : Step). x .state) e) (c .before .record-numbers .ensures)
 
 returns-2 : tie.Need-returns-2

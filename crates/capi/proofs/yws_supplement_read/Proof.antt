@@ -1,7 +1,7 @@
--- By the calls.
-use mathlib.Core.Path.{_∙_}
-use Rattle.plain.specs.Codes.{supplementNumbers}
-use Rattle.told.specs.Answers.{number, place, orBefore}
+-- By whether the code is taken.
+use mathlib.Core.Path.{_∙_, ap, sym}
+use Rattle.supplement.specs.Supplement.{said}
+use Rattle.capi.proofs.Kept.{reads-taken, reads-refused}
 use borrow.Author.Needs.{needs}
 use Rattle.capi.proofs.yws_supplement_read.Statement.{statement}
 use Rattle.capi.proofs.yws_supplement_read.Tie as tie
@@ -9,31 +9,26 @@ use Rattle.capi.proofs.yws_supplement_read.Tie as tie
 read-requires : tie.Need-read-requires
 read-requires c κs = search needs
 
-supplement-place-requires : tie.Need-supplement-place-requires
-supplement-place-requires c κs = search needs
+enum-known-x : tie.Need-enum-known-x
+enum-known-x c = search needs
 
-supplement-after-requires : tie.Need-supplement-after-requires
-supplement-after-requires c κs = search needs
+supplement-numbers-requires : tie.Need-supplement-numbers-requires
+supplement-numbers-requires c κs = search needs
 
-supplement-number-requires : tie.Need-supplement-number-requires
-supplement-number-requires c κs = search needs
+enum-known-f : tie.Need-enum-known-f
+enum-known-f c = search needs
 
 returns : tie.Need-returns
 returns c =
-    let a = c .before .before .before .before .before .before .args in
     let r = c .before .before .before .before .read in
-    record {
-      returns = c .supplement-number .ensures ∙ (λ i. number (r .ensures i));
-      places = c .before .before .before .supplement-place .ensures ∙ (λ i. place (r .ensures i));
-      leaves = c .before .supplement-after .ensures ∙ (λ i. orBefore supplementNumbers (r .ensures i) (a .numbers .now));
-    }
+    reads-taken _ (sym (r .ensures) ∙ ap said (c .before .before .x .given .1)) (c .supplement-numbers .ensures)
+
+returns-2 : tie.Need-returns-2
+returns-2 c =
+    let r = c .before .before .before .read in
+    reads-refused _ (sym (r .ensures) ∙ ap said (c .before .f .given .1))
 
 pub yws-supplement-read-spec : {M : Type 1} → statement M
 yws-supplement-read-spec =
     tie.close
-    (tie.spec
-    read-requires
-    supplement-place-requires
-    supplement-after-requires
-    supplement-number-requires
-    returns)
+    (tie.spec read-requires enum-known-x supplement-numbers-requires enum-known-f returns returns-2)
