@@ -98,10 +98,9 @@ pub extern "C" fn yws_run_read(
     ensures { λ r. ⌜ ReadsRun (readRun issue (now (codes .entry))) (now (days .entry)) r (now (refusal .exit)) (now (days .exit)) ⌝ }
 {
     let run = days::read_run(issue, codes);
-    let set = run.days;
     *refusal = [run.place as u64, run.code as u64];
     if run.number == 0 {
-        let cells = set.cells;
+        let cells = run.days.cells;
         *days = cells;
     }
     run.number

@@ -9,11 +9,11 @@ read-run-requires c κs = search needs
 
 returns : tie.Need-returns
 returns c =
-    run-taken _ _ (c .before .before .before .before .before .read-run .ensures) _ (c .before .if1 .taken)
+    run-taken _ _ (c .before .before .before .before .read-run .ensures) _ (c .before .if1 .taken)
 
 returns-2 : tie.Need-returns-2
 returns-2 c =
-    run-refused _ _ (c .before .before .before .before .read-run .ensures) _ (c .if1 .left)
+    run-refused _ _ (c .before .before .before .read-run .ensures) _ (c .if1 .left)
 
 pub yws-run-read-spec : {M : Type 1} → statement M
 yws-run-read-spec = tie.close (tie.spec read-run-requires returns returns-2)
