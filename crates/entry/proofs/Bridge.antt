@@ -1,16 +1,13 @@
 -- What is wrong with a record's parts, judged one by one, is what the reader says of its line.
 -- Assumes nothing.
-use Prim.Native.Nat.{ℕ, suc, _+_, _-_, _≤_, _<_}
-use mathlib.Core.Path.{_≡_, refl, _∙_, sym, ap, ap₂}
+use Prim.Native.Nat.{ℕ, _+_, _-_, _≤_}
+use mathlib.Core.Path.{_≡_, refl, _∙_, sym, ap}
 use mathlib.Core.Bool.{Bool, true, false, cond, _&&_}
 use mathlib.Core.List.{List, [], _∷_, _++_, map}
-use native.Mathlib.Numerals.{add-one}
-use native.Mathlib.Nat.{zero-add, add-zero}
 use native.Mathlib.Omega.{arith}
 use borrow.Author.Tests.{eqb-true, eqb-false, eq-eqb, le-leb}
 use lib.Dec.{eqb, leb}
-use lib.ListN.{length, getD, drop, replicate, length-map, List·getD-append, List·getD-map}
-use lib.Seq.{take-append-seam}
+use lib.ListN.{length, getD, drop, length-map}
 use Rattle.cells.proofs.Split.{split as cases}
 use Rattle.line.specs.Fields.{split, push, join}
 use Rattle.number.specs.Number.{figure, figures, value, shortest, readNumber}
@@ -22,37 +19,16 @@ use Rattle.order.proofs.Lists.{every}
 use Rattle.field.specs.Field.{free, text, readField}
 use Rattle.field.specs.declared.Rule.{Rule}
 use Rattle.field.specs.declared.Sofar.{Sofar}
-use Rattle.row.specs.Table.{typed, kindField, codeField, rulesFrom, rulesOf, rules, counted, noRule, tableOf}
+use Rattle.row.specs.Table.{typed, rulesOf, rules, counted}
 use Rattle.row.specs.Row.{fieldByField, readRow}
 use Rattle.row.specs.declared.Row.{Row}
-use Rattle.row.specs.declared.Rules.{Rules}
-use Rattle.record.specs.Record.{textAt}
+use Rattle.printed.specs.Printed.{noField}
 use Rattle.record.specs.Line.{refusal, rowRefusal, fromRow, readFields, recordNumber, readParts}
-use Rattle.record.specs.declared.Place.{Place}
 use Rattle.record.specs.declared.Refusal.{Refusal}
 use Rattle.record.specs.declared.Answer.the-variants.{Refused}
-use Rattle.held.specs.Held.{lentText}
 use Rattle.held.proofs.Numbers.{number-value}
-use Rattle.entry.specs.Entry.{own, inLent, bytesOf, cellBytes, inTen, numberIn}
-use Rattle.entry.specs.Code.Judge.{noCell, partAt, tableIn, wrongFrom, wrongTyped, textsWrong, wrongIn}
-use Rattle.entry.specs.declared.Cell.{Cell}
-
--- A part of none has no bytes.
-no-bytes : (lent : List ℕ) → cellBytes lent noCell ≡ []
-unfolding bytesOf
-no-bytes lent = refl
-
--- ---- the bytes of a part
--- A part in characters of its own has these bytes,
-pub own-bytes : (lent f : List ℕ) → cellBytes lent (own f) ≡ f
-unfolding bytesOf
-own-bytes lent f = take-append-seam f (replicate (24 - length f) 0)
-
--- and a text in the lent bytes those at its place.
-pub lent-bytes : (lent : List ℕ) (p : Place) → cellBytes lent (inLent lent p) ≡ lentText lent p
-unfolding bytesOf lentText textAt
-lent-bytes lent p =
-    cases (leb (p .from) (p .to)) (λ e. cases (leb (p .to) (length lent)) (λ f. simp (e, f)) (λ f. simp (e, f))) (λ e. simp e)
+use Rattle.entry.specs.Entry.{textOr, numberIn}
+use Rattle.entry.specs.Code.Judge.{Laid, wrongTyped, textsWrong, wrongIn}
 
 -- ---- the record's number, as it is written and read
 -- a number is read as itself, or as none
@@ -89,13 +65,6 @@ pub join-more : (f : List ℕ) (fs : List (List ℕ)) → 1 ≤ length fs → jo
 unfolding join
 join-more f [] l = absurd (omega arith)
 join-more f (g ∷ fs) l = refl
-
--- ---- the fields of a typed record
--- As many as its row of the table, and among them those that hold the kind and the drug code.
-pub record FitsRow (n : ℕ) (fs : List (List ℕ)) : Type 0 where
-  pub count : length fs ≡ length (rulesOf n fs)
-  pub kind : (1 ≤ kindField n) × (kindField n ≤ length fs)
-  pub code : (1 ≤ codeField n) × (codeField n ≤ length fs)
 
 -- ---- the first wrong field
 module _ (joins : Supplement → Bool) (c : Sofar) where
@@ -153,59 +122,24 @@ module _ (joins : Supplement → Bool) (c : Sofar) where
       (λ e. reads n fs (λ r. same _ r) (λ r. ap (λ (k : ℕ). recordWrong k fs) r ∙ unknown 0 fs no-0 ∙ sym (unknown n fs e)))
 
   -- So it does of parts in which the same is wrong as in the fields.
-  judged : (lent : List ℕ) (at n : ℕ) (cs : List Cell) (fs : List (List ℕ)) →
-      cond (typed n) (wrongTyped joins c lent n cs) (textsWrong joins c (split (partAt lent cs 1))) ≡ rowWrong n fs →
-      wrongIn joins c lent n cs ≡ numberIn (readParts joins c at (printNumber n ∷ fs))
+  judged : (lent : List ℕ) (at n : ℕ) (p : Laid) (fs : List (List ℕ)) →
+      cond (typed n) (wrongTyped joins c lent n p) (textsWrong joins c (split (textOr lent noField (getD (p .from) 1 0) (getD (p .to) 1 0)))) ≡ rowWrong n fs →
+      wrongIn joins c lent n p ≡ numberIn (readParts joins c at (printNumber n ∷ fs))
   unfolding wrongIn
-  judged lent at n cs fs e = ap (λ (w : ℕ). cond (eqb (follow (c .last) n) 0) w (follow (c .last) n)) e ∙ sym (by-number at n fs)
+  judged lent at n p fs e = ap (λ (w : ℕ). cond (eqb (follow (c .last) n) 0) w (follow (c .last) n)) e ∙ sym (by-number at n fs)
 
   -- ---- a typed record
-  -- k fields, after i others, whose rules and parts stand in `all` and in `cs` from there on
-  wrong-from : (lent : List ℕ) (all : List Rule) (cs : List Cell) (rs : List Rule) (fs : List (List ℕ)) (i : ℕ) → length fs ≡ length rs →
-      ((j : ℕ) → j < length rs → getD all (i + j) noRule ≡ getD rs j noRule) → ((j : ℕ) → j < length fs → partAt lent cs (i + j + 1) ≡ getD fs j []) →
-      wrongFrom joins c lent all cs (length rs) i ≡ firstWrong rs fs
-  unfolding wrongFrom firstWrong
-  wrong-from lent all cs [] fs i h a b = refl
-  wrong-from lent all cs (r ∷ rs) [] i h a b = absurd (omega arith)
-  wrong-from lent all cs (r ∷ rs) (f ∷ fs) i h a b =
-      let g : getD all i noRule ≡ r = rw add-zero at (a 0 (omega arith)) in
-      let p : partAt lent cs (i + 1) ≡ f = rw add-zero at (b 0 (omega arith)) in
-      let more : wrongFrom joins c lent all cs (length rs) (i + 1) ≡ firstWrong rs fs =
-      wrong-from lent all cs rs fs (i + 1) (omega arith)
-      (λ j l. let z : i + 1 + j ≡ i + suc j = omega arith in ap (λ (k : ℕ). getD all k noRule) z ∙ a (suc j) (omega arith))
-      (λ j l. let z : i + 1 + j + 1 ≡ i + suc j + 1 = omega arith in ap (partAt lent cs) z ∙ b (suc j) (omega arith)) in
-      λ q. let n : ℕ = readField joins c (g q) (p q) .number in cond (eqb n 0) (more q) n
-
-  -- parts of which the bytes are a record's number and its fields
-  module _ (lent : List ℕ) (n : ℕ) (cs : List Cell) (fs : List (List ℕ)) (h : map (cellBytes lent) cs ≡ printNumber n ∷ fs) where
-    part-is : (j : ℕ) → j < length fs → partAt lent (inTen cs) (j + 1) ≡ getD fs j []
-    part-is j l =
-        let k : length cs ≡ suc (length fs) = sym (length-map cs (cellBytes lent)) ∙ ap length h in
-        ap (cellBytes lent) (List·getD-append cs _ noCell (j + 1) (omega arith))
-        ∙ sym (List·getD-map (cellBytes lent) cs (j + 1) noCell)
-        ∙ ap₂ (λ (ps : List (List ℕ)) (p : List ℕ). getD ps (j + 1) p) h (no-bytes lent)
-        ∙ rw add-one
-
-    nth-is : (k : ℕ) → 1 ≤ k → k ≤ length fs → partAt lent (inTen cs) k ≡ getD fs (k - 1) []
-    nth-is k l m = let z : k ≡ k - 1 + 1 = omega arith in ap (partAt lent (inTen cs)) z ∙ part-is (k - 1) (omega arith)
-
-    -- What is wrong with a typed record that has as many fields as its table.
-    pub typed-wrong : (at : ℕ) → typed n ≡ true → FitsRow n fs → wrongIn joins c lent n (inTen cs) ≡ numberIn (readParts joins c at (printNumber n ∷ fs))
-    unfolding wrongTyped rules counted
-    typed-wrong at t d =
-        let l : length fs ≡ length (rulesOf n fs) = d .count in
-        let table : tableIn n lent (inTen cs) ≡ tableOf (rulesOf n fs) =
-        λ i. tableOf (rulesFrom n (nth-is (kindField n) (d .kind .0) (d .kind .1) i) (nth-is (codeField n) (d .code .0) (d .code .1) i)) in
-        let w : wrongFrom joins c lent (tableOf (rulesOf n fs) .each) (inTen cs) (length (rulesOf n fs)) 0 ≡ firstWrong (rulesOf n fs) fs =
-        wrong-from lent (tableOf (rulesOf n fs) .each) (inTen cs) (rulesOf n fs) fs 0 l
-        (λ j b. rw zero-add (List·getD-append (rulesOf n fs) _ noRule j b)) (λ j b. rw zero-add (part-is j b)) in
-        let r : rules n fs ≡ rulesOf n fs = rw t in
-        let v : rowWrong n fs ≡ firstWrong (rulesOf n fs) fs =
-        rw (r, le-leb 1 (length fs) (omega (arith, d .kind)), eq-eqb (length fs) (length (rulesOf n fs)) l) in
-        judged lent at n (inTen cs) fs
-        (ap (λ (b : Bool). cond b (wrongTyped joins c lent n (inTen cs)) (textsWrong joins c (split (partAt lent (inTen cs) 1)))) t
-        ∙ ap (λ (x : Rules). wrongFrom joins c lent (x .each) (inTen cs) (x .count) 0) table
-        ∙ w ∙ sym v)
+  -- What is wrong with a typed record that has as many fields as its table.
+  pub typed-wrong : (lent : List ℕ) (at n : ℕ) (p : Laid) (fs : List (List ℕ)) → typed n ≡ true → 1 ≤ length fs → length fs ≡ length (rulesOf n fs) →
+      wrongTyped joins c lent n p ≡ firstWrong (rulesOf n fs) fs → wrongIn joins c lent n p ≡ numberIn (readParts joins c at (printNumber n ∷ fs))
+  unfolding rules counted
+  typed-wrong lent at n p fs t least l w =
+      let r : rules n fs ≡ rulesOf n fs = rw t in
+      let v : rowWrong n fs ≡ firstWrong (rulesOf n fs) fs =
+      rw (r, le-leb 1 (length fs) least, eq-eqb (length fs) (length (rulesOf n fs)) l) in
+      judged lent at n p fs
+      (ap (λ (b : Bool). cond b (wrongTyped joins c lent n p) (textsWrong joins c (split (textOr lent noField (getD (p .from) 1 0) (getD (p .to) 1 0))))) t
+      ∙ w ∙ sym v)
 
   -- ---- a kept record
   texts-wrong : (fs : List (List ℕ)) → textsWrong joins c fs ≡ firstWrong (map (λ f. text free 200) fs) fs
@@ -221,13 +155,13 @@ module _ (joins : Supplement → Bool) (c : Sofar) where
       rw (r, le-leb 1 (length fs) l, eq-eqb (length fs) _ k) (texts-wrong fs)
 
   -- What is wrong with a kept record, whose fields are one part.
-  pub kept-wrong : (lent : List ℕ) (at n : ℕ) (x : Cell) (fs : List (List ℕ)) → typed n ≡ false → split (cellBytes lent x) ≡ fs →
-      wrongIn joins c lent n (inTen (own (printNumber n) ∷ x ∷ [])) ≡ numberIn (readParts joins c at (printNumber n ∷ fs))
-  kept-wrong lent at n x fs t e =
-      let cs : List Cell = inTen (own (printNumber n) ∷ x ∷ []) in
-      let l : 1 ≤ length fs = rw e at (some-field (cellBytes lent x)) in
-      judged lent at n cs fs
-      (ap (λ (b : Bool). cond b (wrongTyped joins c lent n cs) (textsWrong joins c (split (cellBytes lent x)))) t
+  pub kept-wrong : (lent : List ℕ) (at n : ℕ) (p : Laid) (fs : List (List ℕ)) → typed n ≡ false → split (textOr lent noField (getD (p .from) 1 0) (getD (p .to) 1 0)) ≡ fs →
+      wrongIn joins c lent n p ≡ numberIn (readParts joins c at (printNumber n ∷ fs))
+  kept-wrong lent at n p fs t e =
+      let s : List ℕ = textOr lent noField (getD (p .from) 1 0) (getD (p .to) 1 0) in
+      let l : 1 ≤ length fs = rw e at (some-field s) in
+      judged lent at n p fs
+      (ap (λ (b : Bool). cond b (wrongTyped joins c lent n p) (textsWrong joins c (split s))) t
       ∙ ap (textsWrong joins c) e
       ∙ kept-row n fs t l)
 

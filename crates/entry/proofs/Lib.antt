@@ -1,3 +1,4 @@
-pub mod Walk
 pub mod Bridge
+pub mod Judged
+pub mod Walk
 pub mod Laws

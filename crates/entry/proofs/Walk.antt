@@ -17,8 +17,7 @@ use Rattle.field.specs.Field.{readField}
 use Rattle.field.specs.declared.Rule.{Rule}
 use Rattle.field.specs.declared.Sofar.{Sofar}
 use Rattle.row.specs.Table.{kindField, codeField, rulesFrom, keptRule}
-use Rattle.entry.specs.Code.Judge.{wrongAt, wrongFrom, upto, commaFrom, textsWrong}
-use Rattle.entry.specs.declared.Cell.{Cell}
+use Rattle.entry.specs.Code.Judge.{Laid, wrongAt, wrongFrom, upto, commaFrom, textsWrong}
 
 -- ---- the fields of a typed record
 -- the kind and the drug code are among the first five
@@ -39,19 +38,19 @@ few-rules n kind code =
     (λ b. cases (eqb n 111) (λ e. simp (a, b, e) (omega arith))
     (λ d. cases (eqb n 181) (λ e. simp (a, b, d, e) (omega arith)) (λ e. simp (a, b, d, e) (omega arith)))))
 
-module _ (joins : Supplement → Bool) (c : Sofar) (lent : List ℕ) (rs : List Rule) (cs : List Cell) (count i : ℕ) (h : i < count) where
+module _ (joins : Supplement → Bool) (c : Sofar) (lent : List ℕ) (rs : List Rule) (p : Laid) (count i : ℕ) (h : i < count) where
   one-more : count - i ≡ suc (count - (i + 1))
   one-more = omega arith
 
   -- a field that is wrong,
-  pub wrong-here : (wrongAt joins c lent rs cs i ≡ 0 → ⊥) → wrongFrom joins c lent rs cs (count - i) i ≡ wrongAt joins c lent rs cs i
+  pub wrong-here : (wrongAt joins c lent rs p i ≡ 0 → ⊥) → wrongFrom joins c lent rs p (count - i) i ≡ wrongAt joins c lent rs p i
   unfolding wrongFrom
-  wrong-here z = rw (one-more, ne-eqb (wrongAt joins c lent rs cs i) 0 z)
+  wrong-here z = rw (one-more, ne-eqb (wrongAt joins c lent rs p i) 0 z)
 
   -- and one that is not
-  pub wrong-later : wrongAt joins c lent rs cs i ≡ 0 → wrongFrom joins c lent rs cs (count - i) i ≡ wrongFrom joins c lent rs cs (count - (i + 1)) (i + 1)
+  pub wrong-later : wrongAt joins c lent rs p i ≡ 0 → wrongFrom joins c lent rs p (count - i) i ≡ wrongFrom joins c lent rs p (count - (i + 1)) (i + 1)
   unfolding wrongFrom
-  wrong-later z = rw (one-more, eq-eqb (wrongAt joins c lent rs cs i) 0 z)
+  wrong-later z = rw (one-more, eq-eqb (wrongAt joins c lent rs p i) 0 z)
 
 -- ---- texts between commas
 -- The bytes up to a comma are the first of them.

@@ -1,79 +1,94 @@
--- A record as the parts of the line that it is written as: each in characters of its own, or as a place in the bytes lent beside the record.
+-- A record as the parts of the line that it is written as: each a number's digits, a place in the bytes lent beside the record, or characters of its own.
 -- Assumes nothing.
 use Prim.Native.Nat.{ℕ, _-_}
-use mathlib.Core.Bool.{Bool, true, false, cond}
-use mathlib.Core.List.{List, [], _∷_, _++_}
-use lib.Dec.{leb}
-use lib.ListN.{length, take, replicate}
-use Rattle.number.specs.Print.{printNumber, printAmount}
+use mathlib.Core.Bool.{Bool, cond}
+use mathlib.Core.List.{List, [], _∷_, _++_, map}
+use lib.Dec.{eqb, leb}
+use lib.ListN.{length, replicate}
+use lib.Seq.{slice}
+use Rattle.number.specs.Print.{printAmount}
 use Rattle.supplement.specs.declared.Supplement.{Supplement}
 use Rattle.field.specs.declared.Sofar.{Sofar}
-use Rattle.printed.specs.Printed.{noField, dateField, piece}
-use Rattle.record.specs.Record.{textAt}
+use Rattle.printed.specs.Printed.{dateField, piece}
 use Rattle.record.specs.Line.{readParts}
 use Rattle.record.specs.declared.Place.{Place}
 use Rattle.record.specs.declared.Answer.{Answer}
 use Rattle.record.specs.declared.Answer.the-variants.{Took, Refused}
 use Rattle.record.specs.declared.Record.{Record}
 use Rattle.record.specs.declared.Record.the-variants.{Issue, Rp, Usage, Supplement as Supply, Drug, Kept}
-use Rattle.held.specs.Held.{lentHeld, optional, usageValue, supplementValue, print, parts}
-use Rattle.entry.specs.declared.Cell.{Cell}
+use Rattle.held.specs.Held.{lentHeld, usageValue, supplementValue, print, parts}
 use Rattle.entry.specs.declared.Entry.{Entry}
 
--- A part in characters of its own.
-abbrev pub own : List ℕ → Cell
-own f = record { lent = false; place = record { from = 0; to = 0 }; piece = piece f }
+-- A part of a line: a number, a text in the lent bytes, or the characters that the record has of its own.
+pub data Part : Type 0 where
+  digits : ℕ → Part
+  text : Place → Part
+  own : Part
 
--- A part that is a place in the lent bytes; a place outside them is no text.
-abbrev pub inLent : List ℕ → Place → Cell
-inLent lent p =
-    cond (leb (p .from) (p .to)) (cond (leb (p .to) (length lent)) (record { lent = true; place = p; piece = piece [] }) (own noField)) (own noField)
+-- What a part is, as a number,
+abbrev pub kindOf : Part → ℕ
+kindOf (digits n) = 0
+kindOf (text p) = 1
+kindOf own = 2
 
--- The bytes of a part, where its own characters are kept in `chars`.
-unfoldable pub bytesOf : Cell → List ℕ → List ℕ → List ℕ
-bytesOf c lent chars = cond (c .lent) (textAt lent (c .place)) (take (c .piece .length) chars)
+-- its number, 0 where it has none,
+abbrev pub numberOf : Part → ℕ
+numberOf (digits n) = n
+numberOf (text p) = 0
+numberOf own = 0
 
--- The bytes of a part.
-abbrev pub cellBytes : List ℕ → Cell → List ℕ
-cellBytes lent c = bytesOf c lent (c .piece .bytes)
+-- and where its text begins and ends.
+abbrev pub fromOf : Part → ℕ
+fromOf (digits n) = 0
+fromOf (text p) = p .from
+fromOf own = 0
+
+abbrev pub toOf : Part → ℕ
+toOf (digits n) = 0
+toOf (text p) = p .to
+toOf own = 0
+
+-- A number that is empty where it is 0: then a text of no byte.
+abbrev pub optionalPart : ℕ → Part
+optionalPart n = cond (eqb n 0) (text (record { from = 0; to = 0 })) (digits n)
 
 -- The parts of a record: its number, and its fields in the order of the table. The fields of a kept record are one part, with the commas
 -- between them.
-abbrev pub cells : List ℕ → Record → List Cell
-cells lent (Issue x) = own (printNumber 51) ∷ own (dateField (x .date)) ∷ []
-cells lent (Rp x) =
-    own (printNumber 101) ∷ own (printNumber (x .rp .0)) ∷ own (printNumber (x .form)) ∷ inLent lent (x .name) ∷ own (printNumber (x .quantity)) ∷ []
-cells lent (Usage x) =
-    own (printNumber 111) ∷
-    own (printNumber (x .rp .0)) ∷
-    own (printNumber (x .kind)) ∷
-    own (print (usageValue (x .code))) ∷
-    inLent lent (x .name) ∷
-    own (print (optional (x .times))) ∷ []
-cells lent (Supply x) =
-    own (printNumber 181) ∷
-    own (printNumber (x .rp .0)) ∷
-    own (printNumber (x .serial .0)) ∷
-    own (print (optional (x .kind))) ∷
-    inLent lent (x .text) ∷
-    own (print (supplementValue (x .code))) ∷
-    inLent lent (x .site) ∷ []
-cells lent (Drug x) =
-    own (printNumber 201) ∷
-    own (printNumber (x .rp .0)) ∷
-    own (printNumber (x .serial .0)) ∷
-    own (print (optional (x .kind))) ∷
-    own (printNumber (x .coding)) ∷
-    inLent lent (x .code) ∷
-    inLent lent (x .name) ∷
-    own (printAmount (x .amount)) ∷
-    own (printNumber (x .flag)) ∷
-    inLent lent (x .unit) ∷ []
-cells lent (Kept x) = own (printNumber (lentHeld lent (Kept x) .number)) ∷ inLent lent (x .fields) ∷ []
+abbrev pub partList : Record → List Part
+partList (Issue x) = digits 51 ∷ own ∷ []
+partList (Rp x) = digits 101 ∷ digits (x .rp .0) ∷ digits (x .form) ∷ text (x .name) ∷ digits (x .quantity) ∷ []
+partList (Usage x) = digits 111 ∷ digits (x .rp .0) ∷ digits (x .kind) ∷ own ∷ text (x .name) ∷ optionalPart (x .times) ∷ []
+partList (Supply x) =
+    digits 181 ∷ digits (x .rp .0) ∷ digits (x .serial .0) ∷ optionalPart (x .kind) ∷ text (x .text) ∷ own ∷ text (x .site) ∷ []
+partList (Drug x) =
+    digits 201 ∷
+    digits (x .rp .0) ∷
+    digits (x .serial .0) ∷
+    optionalPart (x .kind) ∷
+    digits (x .coding) ∷
+    text (x .code) ∷
+    text (x .name) ∷
+    own ∷
+    digits (x .flag) ∷
+    text (x .unit) ∷ []
+partList (Kept x) = digits (lentHeld [] (Kept x) .number) ∷ text (x .fields) ∷ []
 
--- Parts in ten cells.
-abbrev pub inTen : List Cell → List Cell
-inTen cs = cs ++ replicate (10 - length cs) (own [])
+-- The characters of its own: a date, a code or an amount; each record has one such field, or none.
+abbrev pub ownOf : Record → List ℕ
+ownOf (Issue x) = dateField (x .date)
+ownOf (Rp x) = []
+ownOf (Usage x) = print (usageValue (x .code))
+ownOf (Supply x) = print (supplementValue (x .code))
+ownOf (Drug x) = printAmount (x .amount)
+ownOf (Kept x) = []
+
+-- Parts in ten places.
+abbrev pub inTen : List Part → List Part
+inTen ps = ps ++ replicate (10 - length ps) (digits 0)
+
+-- A text in the lent bytes; of a place outside them, `none`.
+unfoldable pub textOr : List ℕ → List ℕ → ℕ → ℕ → List ℕ
+textOr lent none from to = cond (leb from to) (cond (leb to (length lent)) (slice from to lent) none) none
 
 -- The number of a refusal, 0 where a record is taken.
 abbrev pub numberIn : Answer → ℕ
@@ -86,6 +101,10 @@ unfoldable pub entryOf : (Supplement → Bool) → Sofar → List ℕ → Record
 entryOf joins c lent r =
     record {
       wrong = numberIn (readParts joins c 0 (parts (lentHeld lent r)));
-      count = length (cells lent r);
-      each = inTen (cells lent r);
+      count = length (partList r);
+      kinds = map kindOf (inTen (partList r));
+      numbers = map numberOf (inTen (partList r));
+      from = map fromOf (inTen (partList r));
+      to = map toOf (inTen (partList r));
+      own = piece (ownOf r);
     }

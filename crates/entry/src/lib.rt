@@ -3,7 +3,6 @@ use field::Rule;
 use field::Sofar;
 use printed::Piece;
 use record::Kept;
-use record::Place;
 use record::Record;
 use record::Record51;
 use record::Record101;
@@ -17,224 +16,187 @@ ghost use mathlib.Core.Path.{_≡_};
 ghost use mathlib.Core.List.{[]};
 ghost use Prim.Native.Nat.{_≤_};
 ghost use lib.ListN.{length, take};
-ghost use Rattle.number.specs.Print.{printNumber};
-ghost use Rattle.printed.specs.Printed.{noField};
+ghost use Rattle.printed.specs.Printed.{noField, piece};
 ghost use Rattle.field.specs.Field.{readField};
 ghost use Rattle.line.specs.Fields.{split};
 ghost use Rattle.schedule.specs.Code.Kept.{mayJoin};
 ghost use Rattle.record.specs.declared.Record.the-variants.{Issue, Rp, Usage, Supplement as Supply, Drug, Kept as KeptRecord};
-ghost use Rattle.held.specs.Held.{optional as optionalValue, usageValue, supplementValue, print};
-ghost use Rattle.entry.specs.Entry.{own as ownCell, inLent, bytesOf, cellBytes, entryOf};
-ghost use Rattle.entry.specs.Code.Judge.{inCell, partsOf, keptNumber, numberOf, tableBy, wrongTyped, commaFrom, textsWrong, wrongIn};
+ghost use Rattle.held.specs.Held.{usageValue, supplementValue, print};
+ghost use Rattle.entry.specs.Entry.{kindOf, optionalPart, textOr, entryOf};
+ghost use Rattle.entry.specs.Code.Judge.{partsOf, keptNumber, numberFor, laid, kindMark, tableBy, numberWrong, partWrong, wrongTyped, commaFrom, textsWrong, wrongIn};
 
-// A part of the line: characters of its own, or a place in the bytes that are lent beside the record.
-pub struct Cell {
-    pub lent: bool,
-    pub place: Place,
-    pub piece: Piece,
-}
+// What a part of the line is: a number's digits, a text in the bytes that are lent beside the record, or the characters of the record's own.
+pub const NUMBER: u8 = 0;
 
-// The number with which the reader would refuse the record, 0 where it takes it; and the parts of its line, as many as it has.
+pub const TEXT: u8 = 1;
+
+pub const OWN: u8 = 2;
+
+// The number with which the reader would refuse the record, 0 where it takes it; and the parts of its line, as many as it has, in arrays of plain
+// numbers, which can be lent: what each is, its number, where its text begins and ends. `own` are the characters of the one part that has its own.
 pub struct Entry {
     pub wrong: u8,
     pub count: usize,
-    pub each: [Cell; 10],
+    pub kinds: [u8; 10],
+    pub numbers: [u16; 10],
+    pub from: [usize; 10],
+    pub to: [usize; 10],
+    pub own: Piece,
 }
 
 // ---- the parts
 
-fn own(p: Piece) -> Cell
-    ensures { λ c. ⌜ c ≡ inCell p ⌝ }
+// No character.
+fn empty() -> Piece
+    ensures { λ r. ⌜ r ≡ piece [] ⌝ }
 {
-    Cell {
-        lent: false,
-        place: Place { from: 0, to: 0 },
-        piece: p,
-    }
-}
-
-// A part with no character.
-fn empty() -> Cell
-    ensures { λ c. ⌜ c ≡ ownCell [] ⌝ }
-{
-    own(Piece {
+    Piece {
         length: 0,
         bytes: [0; 24],
-    })
-}
-
-// What no rule takes.
-fn nothing() -> Cell
-    ensures { λ c. ⌜ c ≡ ownCell noField ⌝ }
-{
-    own(Piece {
-        length: 1,
-        bytes: [0; 24],
-    })
-}
-
-// A text in the lent bytes; a place outside them is no text.
-fn text_in(lent: &[u8], p: Place) -> Cell
-    ensures { λ c. ⌜ c ≡ inLent (now (lent .entry)) p ⌝ }
-{
-    if p.to < p.from {
-        return nothing();
-    }
-    if lent.len() < p.to {
-        return nothing();
-    }
-    Cell {
-        lent: true,
-        place: p,
-        piece: Piece {
-            length: 0,
-            bytes: [0; 24],
-        },
     }
 }
 
-fn number(n: u16) -> Cell
-    ensures { λ c. ⌜ c ≡ ownCell (printNumber n) ⌝ }
-{
-    own(printed::number(n))
-}
-
-// A number that is empty where it is 0.
-fn optional(n: u16) -> Cell
-    ensures { λ c. ⌜ c ≡ ownCell (print (optionalValue n)) ⌝ }
+// What a number is that is empty where it is 0: then a text of no byte.
+fn optional(n: u16) -> u8
+    ensures { λ k. ⌜ k ≡ kindOf (optionalPart n) ⌝ }
 {
     if n == 0 {
-        return empty();
+        return TEXT;
     }
-    number(n)
+    NUMBER
 }
 
-fn usage_code(code: UsageCode) -> Cell
-    ensures { λ c. ⌜ c ≡ ownCell (print (usageValue code)) ⌝ }
+fn usage_code(code: UsageCode) -> Piece
+    ensures { λ r. ⌜ r ≡ piece (print (usageValue code)) ⌝ }
 {
     match code {
-        UsageCode::Is(i) => own(printed::usage(i)),
+        UsageCode::Is(i) => printed::usage(i),
         UsageCode::Empty => empty(),
     }
 }
 
-fn supplement_code(code: SupplementCode) -> Cell
-    ensures { λ c. ⌜ c ≡ ownCell (print (supplementValue code)) ⌝ }
+fn supplement_code(code: SupplementCode) -> Piece
+    ensures { λ r. ⌜ r ≡ piece (print (supplementValue code)) ⌝ }
 {
     match code {
-        SupplementCode::Is(x) => own(printed::supplement(x)),
+        SupplementCode::Is(x) => printed::supplement(x),
         SupplementCode::Empty => empty(),
     }
 }
 
-fn parts_51(x: Record51, lent: &[u8]) -> Entry
-    ensures { λ p. ⌜ p ≡ partsOf (now (lent .entry)) (Issue x) ⌝ }
+fn parts_51(x: Record51) -> Entry
+    ensures { λ p. ⌜ p ≡ partsOf (Issue x) ⌝ }
 {
-    let unused = empty();
     Entry {
         wrong: 0,
         count: 2,
-        each: [
-            number(51),
-            own(printed::day(x.date)),
-            unused,
-            unused,
-            unused,
-            unused,
-            unused,
-            unused,
-            unused,
-            unused,
-        ],
+        kinds: [NUMBER, OWN, 0, 0, 0, 0, 0, 0, 0, 0],
+        numbers: [51, 0, 0, 0, 0, 0, 0, 0, 0, 0],
+        from: [0; 10],
+        to: [0; 10],
+        own: printed::day(x.date),
     }
 }
 
-fn parts_101(x: Record101, lent: &[u8]) -> Entry
-    ensures { λ p. ⌜ p ≡ partsOf (now (lent .entry)) (Rp x) ⌝ }
+fn parts_101(x: Record101) -> Entry
+    ensures { λ p. ⌜ p ≡ partsOf (Rp x) ⌝ }
 {
-    let unused = empty();
     Entry {
         wrong: 0,
         count: 5,
-        each: [
-            number(101),
-            number(x.rp.0),
-            number(x.form),
-            text_in(lent, x.name),
-            number(x.quantity),
-            unused,
-            unused,
-            unused,
-            unused,
-            unused,
-        ],
+        kinds: [NUMBER, NUMBER, NUMBER, TEXT, NUMBER, 0, 0, 0, 0, 0],
+        numbers: [101, x.rp.0, x.form, 0, x.quantity, 0, 0, 0, 0, 0],
+        from: [0, 0, 0, x.name.from, 0, 0, 0, 0, 0, 0],
+        to: [0, 0, 0, x.name.to, 0, 0, 0, 0, 0, 0],
+        own: empty(),
     }
 }
 
-fn parts_111(x: Record111, lent: &[u8]) -> Entry
-    ensures { λ p. ⌜ p ≡ partsOf (now (lent .entry)) (Usage x) ⌝ }
+fn parts_111(x: Record111) -> Entry
+    ensures { λ p. ⌜ p ≡ partsOf (Usage x) ⌝ }
 {
-    let unused = empty();
     let code = x.code;
     Entry {
         wrong: 0,
         count: 6,
-        each: [
-            number(111),
-            number(x.rp.0),
-            number(x.kind),
-            usage_code(code),
-            text_in(lent, x.name),
+        kinds: [
+            NUMBER,
+            NUMBER,
+            NUMBER,
+            OWN,
+            TEXT,
             optional(x.times),
-            unused,
-            unused,
-            unused,
-            unused,
+            0,
+            0,
+            0,
+            0,
         ],
+        numbers: [111, x.rp.0, x.kind, 0, 0, x.times, 0, 0, 0, 0],
+        from: [0, 0, 0, 0, x.name.from, 0, 0, 0, 0, 0],
+        to: [0, 0, 0, 0, x.name.to, 0, 0, 0, 0, 0],
+        own: usage_code(code),
     }
 }
 
-fn parts_181(x: Record181, lent: &[u8]) -> Entry
-    ensures { λ p. ⌜ p ≡ partsOf (now (lent .entry)) (Supply x) ⌝ }
+fn parts_181(x: Record181) -> Entry
+    ensures { λ p. ⌜ p ≡ partsOf (Supply x) ⌝ }
 {
-    let unused = empty();
     let code = x.code;
     Entry {
         wrong: 0,
         count: 7,
-        each: [
-            number(181),
-            number(x.rp.0),
-            number(x.serial.0),
+        kinds: [
+            NUMBER,
+            NUMBER,
+            NUMBER,
             optional(x.kind),
-            text_in(lent, x.text),
-            supplement_code(code),
-            text_in(lent, x.site),
-            unused,
-            unused,
-            unused,
+            TEXT,
+            OWN,
+            TEXT,
+            0,
+            0,
+            0,
         ],
+        numbers: [181, x.rp.0, x.serial.0, x.kind, 0, 0, 0, 0, 0, 0],
+        from: [0, 0, 0, 0, x.text.from, 0, x.site.from, 0, 0, 0],
+        to: [0, 0, 0, 0, x.text.to, 0, x.site.to, 0, 0, 0],
+        own: supplement_code(code),
     }
 }
 
-fn parts_201(x: Record201, lent: &[u8]) -> Entry
-    ensures { λ p. ⌜ p ≡ partsOf (now (lent .entry)) (Drug x) ⌝ }
+fn parts_201(x: Record201) -> Entry
+    ensures { λ p. ⌜ p ≡ partsOf (Drug x) ⌝ }
 {
     Entry {
         wrong: 0,
         count: 10,
-        each: [
-            number(201),
-            number(x.rp.0),
-            number(x.serial.0),
+        kinds: [
+            NUMBER,
+            NUMBER,
+            NUMBER,
             optional(x.kind),
-            number(x.coding),
-            text_in(lent, x.code),
-            text_in(lent, x.name),
-            own(printed::amount(x.amount)),
-            number(x.flag),
-            text_in(lent, x.unit),
+            NUMBER,
+            TEXT,
+            TEXT,
+            OWN,
+            NUMBER,
+            TEXT,
         ],
+        numbers: [
+            201,
+            x.rp.0,
+            x.serial.0,
+            x.kind,
+            x.coding,
+            0,
+            0,
+            0,
+            x.flag,
+            0,
+        ],
+        from: [0, 0, 0, 0, 0, x.code.from, x.name.from, 0, 0, x.unit.from],
+        to: [0, 0, 0, 0, 0, x.code.to, x.name.to, 0, 0, x.unit.to],
+        own: printed::amount(x.amount),
     }
 }
 
@@ -249,46 +211,38 @@ fn kept_number(n: u16) -> u16
 }
 
 // Its fields are one part, with the commas between them.
-fn parts_kept(x: Kept, lent: &[u8]) -> Entry
-    ensures { λ p. ⌜ p ≡ partsOf (now (lent .entry)) (KeptRecord x) ⌝ }
+fn parts_kept(x: Kept) -> Entry
+    ensures { λ p. ⌜ p ≡ partsOf (KeptRecord x) ⌝ }
 {
-    let unused = empty();
     let n = kept_number(x.number);
     Entry {
         wrong: 0,
         count: 2,
-        each: [
-            number(n),
-            text_in(lent, x.fields),
-            unused,
-            unused,
-            unused,
-            unused,
-            unused,
-            unused,
-            unused,
-            unused,
-        ],
+        kinds: [NUMBER, TEXT, 0, 0, 0, 0, 0, 0, 0, 0],
+        numbers: [n, 0, 0, 0, 0, 0, 0, 0, 0, 0],
+        from: [0, x.fields.from, 0, 0, 0, 0, 0, 0, 0, 0],
+        to: [0, x.fields.to, 0, 0, 0, 0, 0, 0, 0, 0],
+        own: empty(),
     }
 }
 
 // The parts of a record's line, of which nothing is said yet.
-fn parts(r: Record, lent: &[u8]) -> Entry
-    ensures { λ p. ⌜ p ≡ partsOf (now (lent .entry)) r ⌝ }
+fn parts(r: Record) -> Entry
+    ensures { λ p. ⌜ p ≡ partsOf r ⌝ }
 {
     match r {
-        Record::Issue(x) => parts_51(x, lent),
-        Record::Rp(x) => parts_101(x, lent),
-        Record::Usage(x) => parts_111(x, lent),
-        Record::Supplement(x) => parts_181(x, lent),
-        Record::Drug(x) => parts_201(x, lent),
-        Record::Kept(x) => parts_kept(x, lent),
+        Record::Issue(x) => parts_51(x),
+        Record::Rp(x) => parts_101(x),
+        Record::Usage(x) => parts_111(x),
+        Record::Supplement(x) => parts_181(x),
+        Record::Drug(x) => parts_201(x),
+        Record::Kept(x) => parts_kept(x),
     }
 }
 
 // A record's number, by which it is judged.
 fn number_of(r: Record) -> u16
-    ensures { λ n. ⌜ n ≡ numberOf r ⌝ }
+    ensures { λ n. ⌜ n ≡ numberFor r ⌝ }
 {
     match r {
         Record::Issue(_) => 51,
@@ -300,67 +254,118 @@ fn number_of(r: Record) -> u16
     }
 }
 
-// ---- the bytes of a part
-
-// The first n bytes, or all where there are fewer.
-fn first(s: &[u8], n: usize) -> &[u8]
-    ensures { λ r. ⌜ now r ≡ take n (now (s .entry)) ⌝ }
+// A text in the lent bytes; a place outside them is `none`.
+pub fn text<'a>(lent: &'a [u8], none: &'a [u8], from: usize, to: usize) -> &'a [u8]
+    ensures { λ r. ⌜ now r ≡ textOr (now (lent .entry)) (now (none .entry)) from to ⌝ }
 {
-    if s.len() < n {
-        return s;
+    if to < from {
+        return none;
     }
-    &s[0..n]
-}
-
-// The bytes of a part: `own` are the characters of its own, as an array keeps them.
-pub fn bytes<'a>(c: Cell, lent: &'a [u8], own: &'a [u8]) -> &'a [u8]
-    ensures { λ r. ⌜ now r ≡ bytesOf c (now (lent .entry)) (now (own .entry)) ⌝ }
-{
-    if c.lent {
-        return record::text(lent, c.place);
+    if lent.len() < to {
+        return none;
     }
-    first(own, c.piece.length)
+    &lent[from..to]
 }
 
 // ---- what the reader would say
 
-// What is wrong with a part, by its rule.
-fn wrong_part(c: Sofar, r: Rule, x: Cell, lent: &[u8]) -> u8
-    ensures { λ n. ⌜ n ≡ readField (mayJoin (c .month) (c .schedule)) c r (cellBytes (now (lent .entry)) x) .number ⌝ }
+// What is wrong with a number: it is judged as it is held, without its digits.
+fn wrong_number(c: Sofar, r: Rule, n: u16) -> u8
+    ensures { λ w. ⌜ w ≡ numberWrong c r n ⌝ }
 {
-    let own = x.piece.bytes;
-    field::read(c, r, bytes(x, lent, &own)).number
+    if (r.lo <= n) & (n <= r.hi) & !((r.form == field::CODE_KIND) & (n == 5)) {
+        if field::ordered(c, r, n) {
+            return 0;
+        }
+        return 30;
+    }
+    27
+}
+
+// What is wrong with a text in the lent bytes.
+fn wrong_place(c: Sofar, r: Rule, lent: &[u8], from: usize, to: usize) -> u8
+    ensures { λ w. ⌜ w ≡ readField (mayJoin (c .month) (c .schedule)) c r (textOr (now (lent .entry)) noField from to) .number ⌝ }
+{
+    let none = [0; 1];
+    field::read(c, r, text(lent, &none, from, to)).number
+}
+
+// What is wrong with a part, by its rule.
+fn wrong_part(
+    c: Sofar,
+    r: Rule,
+    lent: &[u8],
+    own: &[u8],
+    kind: u8,
+    number: u16,
+    from: usize,
+    to: usize,
+) -> u8
+    ensures { λ w. ⌜ w ≡ partWrong (mayJoin (c .month) (c .schedule)) c r (now (lent .entry)) (now (own .entry)) kind number from to ⌝ }
+{
+    if kind == NUMBER {
+        return wrong_number(c, r, number);
+    }
+    if kind == TEXT {
+        return wrong_place(c, r, lent, from, to);
+    }
+    field::read(c, r, own).number
+}
+
+// The character of a kind, by which other fields go.
+fn kind_mark(kind: u8, number: u16) -> u8
+    ensures { λ m. ⌜ m ≡ kindMark kind number ⌝ }
+{
+    if (kind == NUMBER) & (number < 10) {
+        return 48 + (number as u8);
+    }
+    0
 }
 
 // The rules of the fields, some of which go by the kind and the drug code.
-fn rules_by(n: u16, kind: Cell, code: Cell, lent: &[u8]) -> Rules
-    ensures { λ t. ⌜ t ≡ tableBy n (now (lent .entry)) kind code ⌝ }
+fn rules_by(n: u16, mark: u8, lent: &[u8], from: usize, to: usize) -> Rules
+    ensures { λ t. ⌜ t ≡ tableBy n mark (textOr (now (lent .entry)) noField from to) ⌝ }
 {
-    let kind_own = kind.piece.bytes;
-    let code_own = code.piece.bytes;
-    row::rules_of(
-        n,
-        bytes(kind, lent, &kind_own),
-        bytes(code, lent, &code_own),
-    )
+    let none = [0; 1];
+    let kind = [mark];
+    row::rules_of(n, &kind, text(lent, &none, from, to))
 }
 
-// A typed record, which has as many fields as its table: the first wrong field, 0 where there is none. Each part is read out of the entry: a
-// local for all ten would copy them once more.
-fn wrong_field(c: Sofar, n: u16, e: Entry, lent: &[u8]) -> u8
-    ensures { λ w. ⌜ w ≡ wrongTyped (mayJoin (c .month) (c .schedule)) c (now (lent .entry)) n (e .each) ⌝ }
+// A typed record, which has as many fields as its table: the first wrong field, 0 where there is none.
+fn wrong_field(
+    c: Sofar,
+    n: u16,
+    lent: &[u8],
+    kinds: &[u8; 10],
+    numbers: &[u16; 10],
+    from: &[usize; 10],
+    to: &[usize; 10],
+    own: &[u8],
+) -> u8
+    ensures { λ w. ⌜ w ≡ wrongTyped (mayJoin (c .month) (c .schedule)) c (now (lent .entry)) n (laid (now (kinds .entry)) (now (numbers .entry)) (now (from .entry)) (now (to .entry)) (now (own .entry))) ⌝ }
 {
     let kind = row::kind_field(n);
     let code = row::code_field(n);
-    let rules = rules_by(n, e.each[kind], e.each[code], lent);
+    let mark = kind_mark(kinds[kind], numbers[kind]);
+    let rules = rules_by(n, mark, lent, from[code], to[code]);
     let count = rules.count;
     let mut i: usize = 0;
     while i < count {
-        let w = wrong_part(c, rules.each[i], e.each[i + 1], lent);
+        let k = i + 1;
+        let w = wrong_part(
+            c,
+            rules.each[i],
+            lent,
+            own,
+            kinds[k],
+            numbers[k],
+            from[k],
+            to[k],
+        );
         if w != 0 {
             return w;
         }
-        i += 1;
+        i = k;
     }
     0
 }
@@ -399,33 +404,67 @@ fn wrong_text(c: Sofar, s: &[u8]) -> u8
     }
 }
 
-fn wrong_texts(c: Sofar, x: Cell, lent: &[u8]) -> u8
-    ensures { λ n. ⌜ n ≡ textsWrong (mayJoin (c .month) (c .schedule)) c (split (cellBytes (now (lent .entry)) x)) ⌝ }
+fn wrong_texts(c: Sofar, lent: &[u8], from: usize, to: usize) -> u8
+    ensures { λ n. ⌜ n ≡ textsWrong (mayJoin (c .month) (c .schedule)) c (split (textOr (now (lent .entry)) noField from to)) ⌝ }
 {
-    let own = x.piece.bytes;
-    wrong_text(c, bytes(x, lent, &own))
+    let none = [0; 1];
+    wrong_text(c, text(lent, &none, from, to))
 }
 
 // What is wrong with a record, by its number and its parts.
-fn wrong(c: Sofar, n: u16, e: Entry, lent: &[u8]) -> u8
-    ensures { λ w. ⌜ w ≡ wrongIn (mayJoin (c .month) (c .schedule)) c (now (lent .entry)) n (e .each) ⌝ }
+fn wrong(
+    c: Sofar,
+    n: u16,
+    lent: &[u8],
+    kinds: &[u8; 10],
+    numbers: &[u16; 10],
+    from: &[usize; 10],
+    to: &[usize; 10],
+    own: &[u8],
+) -> u8
+    ensures { λ w. ⌜ w ≡ wrongIn (mayJoin (c .month) (c .schedule)) c (now (lent .entry)) n (laid (now (kinds .entry)) (now (numbers .entry)) (now (from .entry)) (now (to .entry)) (now (own .entry))) ⌝ }
 {
     let verdict = order::follow(c.last, n);
     if verdict != 0 {
         return verdict;
     }
     if row::typed(n) {
-        return wrong_field(c, n, e, lent);
+        return wrong_field(c, n, lent, kinds, numbers, from, to, own);
     }
-    wrong_texts(c, e.each[1], lent)
+    wrong_texts(c, lent, from[1], to[1])
+}
+
+// The first n bytes, or all where there are fewer.
+pub fn first(s: &[u8], n: usize) -> &[u8]
+    ensures { λ r. ⌜ now r ≡ take n (now (s .entry)) ⌝ }
+{
+    if s.len() < n {
+        return s;
+    }
+    &s[0..n]
 }
 
 // A record, whose texts lie in lent bytes, after what the records before leave.
 pub fn of(c: Sofar, r: Record, lent: &[u8]) -> Entry
     ensures { λ e. ⌜ e ≡ entryOf (mayJoin (c .month) (c .schedule)) c (now (lent .entry)) r ⌝ }
 {
-    let mut e = parts(r, lent);
-    let w = wrong(c, number_of(r), e, lent);
+    let mut e = parts(r);
+    let kinds = e.kinds;
+    let numbers = e.numbers;
+    let from = e.from;
+    let to = e.to;
+    let own = e.own.bytes;
+    let n = e.own.length;
+    let w = wrong(
+        c,
+        number_of(r),
+        lent,
+        &kinds,
+        &numbers,
+        &from,
+        &to,
+        first(&own, n),
+    );
     e.wrong = w;
     e
 }

@@ -134,7 +134,7 @@ fn is_date(f: &[u8]) -> bool
 }
 
 // An RP number or a serial is as ordered.
-fn ordered(c: Sofar, r: Rule, n: u16) -> bool
+pub fn ordered(c: Sofar, r: Rule, n: u16) -> bool
     ensures { λ t. ⌜ t ≡ orderedOf c r n ⌝ }
 {
     if r.form == NEW_RP {

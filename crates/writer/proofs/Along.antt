@@ -5,13 +5,15 @@ use mathlib.Core.Path.{_≡_, _∙_, ap}
 use mathlib.Core.Bool.{false}
 use mathlib.Core.List.{List, [], _∷_, _++_}
 use native.Mathlib.Omega.{arith}
-use borrow.Author.Tests.{leb-true, leb-false, le-leb, lt-leb}
+use borrow.Author.Tests.{eq-eqb, ne-eqb, leb-true, leb-false, le-leb, lt-leb}
 use lib.Dec.{leb}
 use lib.ListN.{length, getD, set, drop, length-append, drop-of-length-le}
 use lib.Seq.{sets, drop-cons}
 use Rattle.cells.proofs.Split.{split as cases}
-use Rattle.entry.specs.Code.Judge.{partAt}
-use Rattle.entry.specs.declared.Cell.{Cell}
+use Rattle.number.specs.Print.{printNumber}
+use Rattle.printed.specs.Printed.{noField}
+use Rattle.entry.specs.Entry.{textOr}
+use Rattle.entry.specs.Code.Judge.{Laid, textBytes, partBytes, partAt}
 use Rattle.writer.specs.Code.Put.{separatorOf, lineFrom, fitsFrom}
 
 -- ---- bytes
@@ -35,7 +37,7 @@ sets-more out (b ∷ p) q at =
     sets-more (set out at b) p q (suc at) ∙ rw z
 
 -- ---- parts
-module _ (lent : List ℕ) (cs : List Cell) (count i : ℕ) (h : i < count) where
+module _ (lent : List ℕ) (p : Laid) (count i : ℕ) (h : i < count) where
   one-more : count - i ≡ suc (count - (i + 1))
   one-more = omega arith
 
@@ -43,44 +45,58 @@ module _ (lent : List ℕ) (cs : List Cell) (count i : ℕ) (h : i < count) wher
   all-of = omega arith
 
   -- the next part, the byte after it, and the others
-  pub next-part : lineFrom lent cs (count - i) i ≡ partAt lent cs i ++ separatorOf i count ∷ lineFrom lent cs (count - (i + 1)) (i + 1)
+  pub next-part : lineFrom lent p (count - i) i ≡ partAt lent p i ++ separatorOf i count ∷ lineFrom lent p (count - (i + 1)) (i + 1)
   unfolding lineFrom
   next-part = rw (one-more, all-of)
 
-  size : length (lineFrom lent cs (count - i) i) ≡ length (partAt lent cs i) + suc (length (lineFrom lent cs (count - (i + 1)) (i + 1)))
-  size = ap length next-part ∙ length-append (partAt lent cs i) (separatorOf i count ∷ lineFrom lent cs (count - (i + 1)) (i + 1))
+  size : length (lineFrom lent p (count - i) i) ≡ length (partAt lent p i) + suc (length (lineFrom lent p (count - (i + 1)) (i + 1)))
+  size = ap length next-part ∙ length-append (partAt lent p i) (separatorOf i count ∷ lineFrom lent p (count - (i + 1)) (i + 1))
 
   -- a part that has no room,
-  pub no-room : (left : ℕ) → left ≤ length (partAt lent cs i) → fitsFrom lent cs (count - i) i left ≡ false
+  pub no-room : (left : ℕ) → left ≤ length (partAt lent p i) → fitsFrom lent p (count - i) i left ≡ false
   unfolding fitsFrom
-  no-room left l = lt-leb (length (lineFrom lent cs (count - i) i)) left (omega (arith, size))
+  no-room left l = lt-leb (length (lineFrom lent p (count - i) i)) left (omega (arith, size))
 
   -- and one that has
-  pub has-room : (left : ℕ) → length (partAt lent cs i) < left →
-      fitsFrom lent cs (count - i) i left ≡ fitsFrom lent cs (count - (i + 1)) (i + 1) (left - length (partAt lent cs i) - 1)
+  pub has-room : (left : ℕ) → length (partAt lent p i) < left →
+      fitsFrom lent p (count - i) i left ≡ fitsFrom lent p (count - (i + 1)) (i + 1) (left - length (partAt lent p i) - 1)
   unfolding fitsFrom
   has-room left l =
-      let n : ℕ = length (lineFrom lent cs (count - (i + 1)) (i + 1)) in
-      cases (leb n (left - length (partAt lent cs i) - 1))
-      (λ e. let k : n ≤ left - length (partAt lent cs i) - 1 = leb-true _ _ e in
-      rw e (le-leb (length (lineFrom lent cs (count - i) i)) left (omega (arith, size))))
-      (λ e. let k : left - length (partAt lent cs i) - 1 < n = leb-false _ _ e in
-      rw e (lt-leb (length (lineFrom lent cs (count - i) i)) left (omega (arith, size))))
+      let n : ℕ = length (lineFrom lent p (count - (i + 1)) (i + 1)) in
+      cases (leb n (left - length (partAt lent p i) - 1))
+      (λ e. let k : n ≤ left - length (partAt lent p i) - 1 = leb-true _ _ e in
+      rw e (le-leb (length (lineFrom lent p (count - i) i)) left (omega (arith, size))))
+      (λ e. let k : left - length (partAt lent p i) - 1 < n = leb-false _ _ e in
+      rw e (lt-leb (length (lineFrom lent p (count - i) i)) left (omega (arith, size))))
 
   -- the part is put, and the byte after it
   pub part-put : (out : List ℕ) (to : ℕ) →
-      sets out to (lineFrom lent cs (count - i) i)
-      ≡ sets (set (sets out to (partAt lent cs i)) (to + length (partAt lent cs i)) (separatorOf i count)) (to + length (partAt lent cs i) + 1)
-      (lineFrom lent cs (count - (i + 1)) (i + 1))
+      sets out to (lineFrom lent p (count - i) i)
+      ≡ sets (set (sets out to (partAt lent p i)) (to + length (partAt lent p i)) (separatorOf i count)) (to + length (partAt lent p i) + 1)
+      (lineFrom lent p (count - (i + 1)) (i + 1))
   part-put out to =
-      let z : to + length (partAt lent cs i) + 1 ≡ suc (to + length (partAt lent cs i)) = omega arith in
-      rw (next-part, z) (sets-more out (partAt lent cs i) (separatorOf i count ∷ lineFrom lent cs (count - (i + 1)) (i + 1)) to)
+      let z : to + length (partAt lent p i) + 1 ≡ suc (to + length (partAt lent p i)) = omega arith in
+      rw (next-part, z) (sets-more out (partAt lent p i) (separatorOf i count ∷ lineFrom lent p (count - (i + 1)) (i + 1)) to)
 
   -- what is left of the line
-  pub part-size : length (lineFrom lent cs (count - i) i) ≡ length (partAt lent cs i) + 1 + length (lineFrom lent cs (count - (i + 1)) (i + 1))
+  pub part-size : length (lineFrom lent p (count - i) i) ≡ length (partAt lent p i) + 1 + length (lineFrom lent p (count - (i + 1)) (i + 1))
   part-size = omega (arith, size)
 
 -- After the last part only the LF is left.
-pub last-byte : (lent : List ℕ) (cs : List Cell) (count i : ℕ) → count ≤ i → lineFrom lent cs (count - i) i ≡ 0x0a ∷ []
+pub last-byte : (lent : List ℕ) (p : Laid) (count i : ℕ) → count ≤ i → lineFrom lent p (count - i) i ≡ 0x0a ∷ []
 unfolding lineFrom
-last-byte lent cs count i h = let z : count - i ≡ 0 = omega arith in rw z
+last-byte lent p count i h = let z : count - i ≡ 0 = omega arith in rw z
+
+-- ---- the bytes of a part, by what it is
+module _ (lent own : List ℕ) (kind number from to : ℕ) where
+  pub as-number : kind ≡ 0 → partBytes lent own kind number from to ≡ printNumber number
+  unfolding partBytes
+  as-number h = rw (eq-eqb kind 0 h)
+
+  pub as-text : (kind ≡ 0 → ⊥) → kind ≡ 1 → partBytes lent own kind number from to ≡ textOr lent noField from to
+  unfolding partBytes textBytes
+  as-text n h = rw (ne-eqb kind 0 n, eq-eqb kind 1 h)
+
+  pub as-own : (kind ≡ 0 → ⊥) → (kind ≡ 1 → ⊥) → partBytes lent own kind number from to ≡ own
+  unfolding partBytes textBytes
+  as-own n h = rw (ne-eqb kind 0 n, ne-eqb kind 1 h)

@@ -18,7 +18,8 @@ use Rattle.record.specs.Line.{readParts}
 use Rattle.record.specs.declared.Answer.{Answer}
 use Rattle.record.specs.declared.Record.{Record}
 use Rattle.held.specs.Held.{lentHeld, parts, printRecord}
-use Rattle.entry.specs.Entry.{cells, numberIn, entryOf}
+use Rattle.entry.specs.Entry.{partList, numberIn, entryOf}
+use Rattle.entry.specs.Code.Judge.{laidIn}
 use Rattle.entry.specs.declared.Entry.{Entry}
 use Rattle.entry.proofs.Laws.{few, anywhere, refused-some}
 use Rattle.writer.specs.Writer.{refuses, putAt, room, ended, putLine, onAnswer, unopened, openBuffer, putRecord, closeBuffer}
@@ -74,7 +75,7 @@ module _ (out : List ℕ) (t : State) (r : Record) (lent : List ℕ) where
 
     pub count-most : e .count ≤ 10
     unfolding entryOf
-    count-most = let k : e .count ≡ length (cells lent r) = ap (λ (x : Entry). x .count) q in omega (arith, few lent r .1)
+    count-most = let k : e .count ≡ length (partList r) = ap (λ (x : Entry). x .count) q in omega (arith, few r .1)
 
     same-number : numberIn (readParts joins (t .sofar) (t .at) (parts (lentHeld lent r))) ≡ e .wrong
     unfolding entryOf
@@ -96,17 +97,17 @@ module _ (out : List ℕ) (t : State) (r : Record) (lent : List ℕ) where
     same-line : lineOf lent e ≡ ended line
     same-line = ap (lineOf lent) q ∙ line-is joins (t .sofar) lent r
 
-    same-room : roomFor (length out) (t .at) lent e ≡ room out (t .at) line
-    same-room = room-is out lent (t .at) e line same-line
+    same-room : roomFor (length out) (t .at) lent (laidIn e) (e .count) ≡ room out (t .at) line
+    same-room = room-is out lent (t .at) (laidIn e) (e .count) line same-line
 
     module _ (w : e .wrong ≡ 0) where
       right : putRecord out t r lent ≡ putLine out t line (after (t .sofar) r)
       right = let z : eqb (e .wrong) 0 ≡ true = eq-eqb (e .wrong) 0 w in by-wrong ∙ rw z
 
-      pub put-full : roomFor (length out) (t .at) lent e ≡ false → refuses out t 33 0 ≡ putRecord out t r lent
+      pub put-full : roomFor (length out) (t .at) lent (laidIn e) (e .count) ≡ false → refuses out t 33 0 ≡ putRecord out t r lent
       put-full h = let z : room out (t .at) line ≡ false = sym same-room ∙ h in sym (right ∙ rw z)
 
-      module _ (h : roomFor (length out) (t .at) lent e ≡ true) where
+      module _ (h : roomFor (length out) (t .at) lent (laidIn e) (e .count) ≡ true) where
         long : length (lineOf lent e) ≡ length line + 2
         long = ap length same-line ∙ length-append line (0x0d ∷ 0x0a ∷ [])
 

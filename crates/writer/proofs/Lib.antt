@@ -3,4 +3,5 @@ pub mod ReadBack
 pub mod Line
 pub mod Laws
 pub mod Along
+pub mod Figures
 pub mod Calls

@@ -1,14 +1,13 @@
 -- A record's line, put part by part, is the line that the record is written as.
 -- Assumes nothing.
-use Prim.Native.Nat.{ℕ, suc, _+_, _-_, _≤_, _<_, min}
+use Prim.Native.Nat.{ℕ, zero, suc, _+_, _-_, _≤_, _<_, min}
 use mathlib.Core.Path.{_≡_, refl, _∙_, sym, ap}
 use mathlib.Core.Bool.{Bool, true, false, cond}
-use mathlib.Core.List.{List, [], _∷_, _++_, map, append-assoc}
-use native.Mathlib.Nat.{zero-add, add-zero}
+use mathlib.Core.List.{List, [], _∷_, _++_, append-assoc}
 use native.Mathlib.Omega.{arith}
 use borrow.Author.Tests.{eq-eqb, ne-eqb, leb-true, leb-false, le-leb, lt-leb}
 use lib.Dec.{eqb, leb}
-use lib.ListN.{length, getD, take, drop, length-append, List·getD-append}
+use lib.ListN.{length, take, drop, length-append}
 use lib.Seq.{sets, sets-eq}
 use Rattle.cells.proofs.Split.{split as cases}
 use Rattle.line.specs.Fields.{join}
@@ -19,10 +18,8 @@ use Rattle.record.specs.declared.Refusal.{Refusal}
 use Rattle.record.specs.declared.Answer.{Answer}
 use Rattle.record.specs.declared.Answer.the-variants.{Took, Refused}
 use Rattle.held.specs.Held.{lentHeld, printRecord}
-use Rattle.entry.specs.Entry.{cellBytes, cells, inTen, numberIn, entryOf}
-use Rattle.entry.specs.Code.Judge.{noCell}
-use Rattle.entry.specs.declared.Cell.{Cell}
-use Rattle.entry.specs.declared.Entry.{Entry}
+use Rattle.entry.specs.Entry.{partList, numberIn, entryOf}
+use Rattle.entry.specs.Code.Judge.{Laid, laidIn, partsOf, partAt, partsFrom}
 use Rattle.entry.proofs.Laws.{line-of, few}
 use Rattle.writer.specs.Writer.{refuses, putAt, room, ended, putLine, onAnswer}
 use Rattle.writer.specs.Code.Put.{separatorOf, lineFrom, lineOf, roomFor}
@@ -35,37 +32,31 @@ on-number out t (Took r) l c h = refl
 on-number out t (Refused f) l c h = let e : eqb (f .number) 0 ≡ false = ne-eqb (f .number) 0 (h f refl) in simp e
 
 -- ---- the line
--- parts from the one with i before it on, which stand in `all` from there on
-line-from : (lent : List ℕ) (all : List Cell) (x : Cell) (cs : List Cell) (i : ℕ) →
-    ((j : ℕ) → j < suc (length cs) → getD all (i + j) noCell ≡ getD (x ∷ cs) j noCell) →
-    lineFrom lent all (suc (length cs)) i ≡ ended (join (map (cellBytes lent) (x ∷ cs)))
-unfolding lineFrom join separatorOf
-line-from lent all x [] i a =
-    let g : getD all i noCell ≡ x = rw add-zero at (a 0 (omega arith)) in
+-- parts put one by one, with their commas and the end of the line
+line-from : (lent : List ℕ) (p : Laid) (k i : ℕ) → lineFrom lent p (suc k) i ≡ ended (join (partsFrom lent p (suc k) i))
+unfolding lineFrom partsFrom join separatorOf
+line-from lent p zero i =
     let e : eqb (i + 1) (i + 1) ≡ true = eq-eqb (i + 1) (i + 1) refl in
-    λ k. cellBytes lent (g k) ++ cond (e k) 0x0d 0x2c ∷ 0x0a ∷ []
-line-from lent all x (y ∷ cs) i a =
-    let g : getD all i noCell ≡ x = rw add-zero at (a 0 (omega arith)) in
-    let e : eqb (i + 1) (i + suc (suc (length cs))) ≡ false = ne-eqb (i + 1) (i + suc (suc (length cs))) (λ z. omega arith) in
-    let more : lineFrom lent all (suc (length cs)) (i + 1) ≡ ended (join (map (cellBytes lent) (y ∷ cs))) =
-    line-from lent all y cs (i + 1) (λ j l. let z : i + 1 + j ≡ i + suc j = omega arith in ap (λ (k : ℕ). getD all k noCell) z ∙ a (suc j) (omega arith)) in
-    (λ k. cellBytes lent (g k) ++ cond (e k) 0x0d 0x2c ∷ more k)
-    ∙ sym (append-assoc (cellBytes lent x) (0x2c ∷ join (map (cellBytes lent) (y ∷ cs))) (0x0d ∷ 0x0a ∷ []))
+    λ k. partAt lent p i ++ cond (e k) 0x0d 0x2c ∷ 0x0a ∷ []
+line-from lent p (suc n) i =
+    let e : eqb (i + 1) (i + suc (suc n)) ≡ false = ne-eqb (i + 1) (i + suc (suc n)) (λ z. omega arith) in
+    (λ k. partAt lent p i ++ cond (e k) 0x0d 0x2c ∷ line-from lent p n (i + 1) k)
+    ∙ sym (append-assoc (partAt lent p i) (0x2c ∷ join (partsFrom lent p (suc n) (i + 1))) (0x0d ∷ 0x0a ∷ []))
 
-line-ten : (lent : List ℕ) (cs : List Cell) → 1 ≤ length cs → lineFrom lent (inTen cs) (length cs) 0 ≡ ended (join (map (cellBytes lent) cs))
-line-ten lent [] l = absurd (omega arith)
-line-ten lent (x ∷ cs) l = line-from lent (inTen (x ∷ cs)) x cs 0 (λ j b. rw zero-add (List·getD-append (x ∷ cs) _ noCell j b))
+line-all : (lent : List ℕ) (p : Laid) (n : ℕ) → 1 ≤ n → lineFrom lent p n 0 ≡ ended (join (partsFrom lent p n 0))
+line-all lent p zero l = absurd (omega arith)
+line-all lent p (suc n) l = line-from lent p n 0
 
 -- The line of a record's entry is the one that the record is written as.
 pub line-is : (joins : Supplement → Bool) (c : Sofar) (lent : List ℕ) (r : Record) → lineOf lent (entryOf joins c lent r) ≡ ended (printRecord (lentHeld lent r))
 unfolding entryOf
-line-is joins c lent r = line-ten lent (cells lent r) (few lent r .0) ∙ ap ended (line-of lent r)
+line-is joins c lent r = line-all lent (laidIn (partsOf r)) (length (partList r)) (few r .0) ∙ ap ended (line-of lent r)
 
 -- Where there is room for it, there is room for that line.
-pub room-is : (out lent : List ℕ) (at : ℕ) (e : Entry) (l : List ℕ) → lineOf lent e ≡ ended l → roomFor (length out) at lent e ≡ room out at l
+pub room-is : (out lent : List ℕ) (at : ℕ) (p : Laid) (count : ℕ) (l : List ℕ) → lineFrom lent p count 0 ≡ ended l → roomFor (length out) at lent p count ≡ room out at l
 unfolding roomFor room
-room-is out lent at e l h =
-    let n : length (lineOf lent e) ≡ length l + 2 = ap length h ∙ length-append l (0x0d ∷ 0x0a ∷ []) in
+room-is out lent at p count l h =
+    let n : length (lineFrom lent p count 0) ≡ length l + 2 = ap length h ∙ length-append l (0x0d ∷ 0x0a ∷ []) in
     cases (leb (at + (length l + 3)) (min (length out) 16384))
     (λ b. let k : at + (length l + 3) ≤ min (length out) 16384 = leb-true _ _ b in
     simp (b, n, lt-leb (min (length out) 16384) at (omega arith), le-leb (length l + 2) (min (length out) 16384 - at - 1) (omega arith)))

@@ -1,17 +1,16 @@
 // The writer of a prescription file: opened over a lent buffer, then one call puts one record, and closing writes the end.
-use entry::Cell;
-use entry::Entry;
 use field::Sofar;
 use record::Record;
 ghost use mathlib.Core.Path.{_≡_};
-ghost use mathlib.Core.Bool.{Bool};
-ghost use mathlib.Core.List.{[], _∷_, _++_};
 ghost use Prim.Native.Nat.{_+_, _≤_, _<_, min};
 ghost use lib.ListN.{length};
 ghost use lib.Seq.{sets};
-ghost use Rattle.entry.specs.Entry.{cellBytes};
-ghost use Rattle.writer.specs.Writer.{state, refuses, openBuffer, putRecord, closeBuffer};
-ghost use Rattle.writer.specs.Code.Put.{separatorOf, fitsFrom, lineOf, roomFor};
+ghost use Rattle.number.specs.Print.{printNumber};
+ghost use Rattle.printed.specs.Printed.{noField};
+ghost use Rattle.entry.specs.Entry.{textOr};
+ghost use Rattle.entry.specs.Code.Judge.{laid, partBytes};
+ghost use Rattle.writer.specs.Writer.{state, openBuffer, putRecord, closeBuffer};
+ghost use Rattle.writer.specs.Code.Put.{separatorOf, fitsFrom, lineFrom, roomFor};
 
 // Where the writer is in the buffer, whether it is closed, and what the records before leave.
 pub struct State {
@@ -64,24 +63,64 @@ fn limit(length: usize) -> usize
 
 // ---- a line
 
-// How many bytes a part has.
-fn width(x: Cell, lent: &[u8]) -> usize
-    ensures { λ r. ⌜ r ≡ length (cellBytes (now (lent .entry)) x) ⌝ }
+// How many digits a number has.
+fn digits(n: u16) -> usize
+    ensures { λ r. ⌜ r ≡ length (printNumber n) ⌝ }
 {
-    let own = x.piece.bytes;
-    entry::bytes(x, lent, &own).len()
+    if n < 10 {
+        return 1;
+    }
+    if n < 100 {
+        return 2;
+    }
+    if n < 1000 {
+        return 3;
+    }
+    if n < 10000 {
+        return 4;
+    }
+    5
+}
+
+// How many bytes a text in the lent bytes has.
+fn text_width(lent: &[u8], from: usize, to: usize) -> usize
+    ensures { λ r. ⌜ r ≡ length (textOr (now (lent .entry)) noField from to) ⌝ }
+{
+    let none = [0; 1];
+    entry::text(lent, &none, from, to).len()
+}
+
+// How many bytes a part has.
+fn width(lent: &[u8], own: &[u8], kind: u8, number: u16, from: usize, to: usize) -> usize
+    ensures { λ r. ⌜ r ≡ length (partBytes (now (lent .entry)) (now (own .entry)) kind number from to) ⌝ }
+{
+    if kind == entry::NUMBER {
+        return digits(number);
+    }
+    if kind == entry::TEXT {
+        return text_width(lent, from, to);
+    }
+    own.len()
 }
 
 // Do the parts, a byte after each, and the LF have room?
-fn fits(e: Entry, lent: &[u8], room: usize) -> bool
-    requires { ⌜ e .count ≤ 10 ⌝ }
-    ensures { λ r. ⌜ r ≡ fitsFrom (now (lent .entry)) (e .each) (e .count) 0 room ⌝ }
+fn fits(
+    count: usize,
+    lent: &[u8],
+    kinds: &[u8; 10],
+    numbers: &[u16; 10],
+    from: &[usize; 10],
+    to: &[usize; 10],
+    own: &[u8],
+    room: usize,
+) -> bool
+    requires { ⌜ count ≤ 10 ⌝ }
+    ensures { λ r. ⌜ r ≡ fitsFrom (now (lent .entry)) (laid (now (kinds .entry)) (now (numbers .entry)) (now (from .entry)) (now (to .entry)) (now (own .entry))) count 0 room ⌝ }
 {
-    let count = e.count;
     let mut left = room;
     let mut i: usize = 0;
     while i < count {
-        let n = width(e.each[i], lent);
+        let n = width(lent, own, kinds[i], numbers[i], from[i], to[i]);
         if left <= n {
             return false;
         }
@@ -116,30 +155,77 @@ fn copy(out: &mut [u8], at: usize, s: &[u8]) -> usize
     at + i
 }
 
-fn put_part(out: &mut [u8], at: usize, x: Cell, lent: &[u8]) -> usize
-    requires { ⌜ at + length (cellBytes (now lent) x) ≤ length (now out) ⌝ }
-    ensures { λ r. ⌜ (now (out .exit) ≡ sets (now (out .entry)) at (cellBytes (now (lent .entry)) x)) × (r ≡ at + length (cellBytes (now (lent .entry)) x)) ⌝ }
+// Puts a number's digits, from the last to the first.
+fn put_number(out: &mut [u8], at: usize, n: u16) -> usize
+    requires { ⌜ at + length (printNumber n) ≤ length (now out) ⌝ }
+    ensures { λ r. ⌜ (now (out .exit) ≡ sets (now (out .entry)) at (printNumber n)) × (r ≡ at + length (printNumber n)) ⌝ }
 {
-    let own = x.piece.bytes;
-    copy(out, at, entry::bytes(x, lent, &own))
+    let end = at + digits(n);
+    let mut left = n;
+    let mut k = end;
+    while at < k {
+        k -= 1;
+        out[k] = 48 + ((left % 10) as u8);
+        left = left / 10;
+    }
+    end
+}
+
+fn put_text(out: &mut [u8], at: usize, lent: &[u8], from: usize, to: usize) -> usize
+    requires { ⌜ at + length (textOr (now lent) noField from to) ≤ length (now out) ⌝ }
+    ensures { λ r. ⌜ (now (out .exit) ≡ sets (now (out .entry)) at (textOr (now (lent .entry)) noField from to)) × (r ≡ at + length (textOr (now (lent .entry)) noField from to)) ⌝ }
+{
+    let none = [0; 1];
+    copy(out, at, entry::text(lent, &none, from, to))
+}
+
+fn put_part(
+    out: &mut [u8],
+    at: usize,
+    lent: &[u8],
+    own: &[u8],
+    kind: u8,
+    number: u16,
+    from: usize,
+    to: usize,
+) -> usize
+    requires { ⌜ at + length (partBytes (now lent) (now own) kind number from to) ≤ length (now out) ⌝ }
+    ensures { λ r. ⌜ (now (out .exit) ≡ sets (now (out .entry)) at (partBytes (now (lent .entry)) (now (own .entry)) kind number from to)) × (r ≡ at + length (partBytes (now (lent .entry)) (now (own .entry)) kind number from to)) ⌝ }
+{
+    if kind == entry::NUMBER {
+        return put_number(out, at, number);
+    }
+    if kind == entry::TEXT {
+        return put_text(out, at, lent, from, to);
+    }
+    copy(out, at, own)
 }
 
 // The line with its CR LF.
-fn put_line(out: &mut [u8], at: usize, e: Entry, lent: &[u8]) -> usize
-    requires { ⌜ (e .count ≤ 10) × (at + length (lineOf (now lent) e) ≤ length (now out)) ⌝ }
-    ensures { λ r. ⌜ (now (out .exit) ≡ sets (now (out .entry)) at (lineOf (now (lent .entry)) e)) × (r ≡ at + length (lineOf (now (lent .entry)) e)) ⌝ }
+fn put_line(
+    out: &mut [u8],
+    at: usize,
+    count: usize,
+    lent: &[u8],
+    kinds: &[u8; 10],
+    numbers: &[u16; 10],
+    from: &[usize; 10],
+    to: &[usize; 10],
+    own: &[u8],
+) -> usize
+    requires { ⌜ (count ≤ 10) × (at + length (lineFrom (now lent) (laid (now kinds) (now numbers) (now from) (now to) (now own)) count 0) ≤ length (now out)) ⌝ }
+    ensures { λ r. ⌜ (now (out .exit) ≡ sets (now (out .entry)) at (lineFrom (now (lent .entry)) (laid (now (kinds .entry)) (now (numbers .entry)) (now (from .entry)) (now (to .entry)) (now (own .entry))) count 0)) × (r ≡ at + length (lineFrom (now (lent .entry)) (laid (now (kinds .entry)) (now (numbers .entry)) (now (from .entry)) (now (to .entry)) (now (own .entry))) count 0)) ⌝ }
 {
-    let count = e.count;
-    let mut to = at;
+    let mut end = at;
     let mut i: usize = 0;
     while i < count {
-        to = put_part(out, to, e.each[i], lent);
-        out[to] = separator(i, count);
-        to += 1;
+        end = put_part(out, end, lent, own, kinds[i], numbers[i], from[i], to[i]);
+        out[end] = separator(i, count);
+        end += 1;
         i += 1;
     }
-    out[to] = b'\n';
-    to + 1
+    out[end] = b'\n';
+    end + 1
 }
 
 // ---- the calls
@@ -165,15 +251,25 @@ pub fn open(out: &mut [u8]) -> Told
 }
 
 // Is there room at a place for a record's line and the closing 1Ah?
-fn has_room(length: usize, at: usize, e: Entry, lent: &[u8]) -> bool
-    requires { ⌜ e .count ≤ 10 ⌝ }
-    ensures { λ r. ⌜ r ≡ roomFor length at (now (lent .entry)) e ⌝ }
+fn has_room(
+    length: usize,
+    at: usize,
+    count: usize,
+    lent: &[u8],
+    kinds: &[u8; 10],
+    numbers: &[u16; 10],
+    from: &[usize; 10],
+    to: &[usize; 10],
+    own: &[u8],
+) -> bool
+    requires { ⌜ count ≤ 10 ⌝ }
+    ensures { λ r. ⌜ r ≡ roomFor length at (now (lent .entry)) (laid (now (kinds .entry)) (now (numbers .entry)) (now (from .entry)) (now (to .entry)) (now (own .entry))) count ⌝ }
 {
     let most = limit(length);
     if most <= at {
         return false;
     }
-    fits(e, lent, most - at - 1)
+    fits(count, lent, kinds, numbers, from, to, own, most - at - 1)
 }
 
 // Puts a record, whose texts lie in the lent bytes.
@@ -188,10 +284,26 @@ pub fn put(out: &mut [u8], t: State, r: Record, lent: &[u8]) -> Told
     if e.wrong != 0 {
         return refused(t, 34, e.wrong);
     }
-    if !has_room(out.len(), t.at, e, lent) {
+    let kinds = e.kinds;
+    let numbers = e.numbers;
+    let from = e.from;
+    let to = e.to;
+    let chars = e.own.bytes;
+    let own = entry::first(&chars, e.own.length);
+    if !has_room(
+        out.len(),
+        t.at,
+        e.count,
+        lent,
+        &kinds,
+        &numbers,
+        &from,
+        &to,
+        own,
+    ) {
         return refused(t, 33, 0);
     }
-    let at = put_line(out, t.at, e, lent);
+    let at = put_line(out, t.at, e.count, lent, &kinds, &numbers, &from, &to, own);
     wrote(at, false, record::after(c, r))
 }
 

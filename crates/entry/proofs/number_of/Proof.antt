@@ -1,7 +1,7 @@
 -- By the kind of the record.
 use mathlib.Core.Path.{sym, ap, _∙_}
 use borrow.Author.Needs.{needs}
-use Rattle.entry.specs.Code.Judge.{keptNumber, numberOf}
+use Rattle.entry.specs.Code.Judge.{keptNumber, numberFor}
 use Rattle.entry.proofs.number_of.Statement.{statement}
 use Rattle.entry.proofs.number_of.Tie as tie
 
@@ -43,7 +43,7 @@ returns-5 c = search needs
 
 returns-6 : tie.Need-returns-6
 unfolding keptNumber
-returns-6 c = c .kept-number .ensures ∙ ap numberOf (sym (c .before .before .r .given .1))
+returns-6 c = c .kept-number .ensures ∙ ap numberFor (sym (c .before .before .r .given .1))
 
 pub number-of-spec : {M : Type 1} → statement M
 number-of-spec =

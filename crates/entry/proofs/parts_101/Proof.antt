@@ -1,45 +1,16 @@
 -- Part by part.
-use mathlib.Core.List.{[], _∷_}
 use borrow.Author.Needs.{needs}
 use Rattle.entry.proofs.parts_101.Statement.{statement}
 use Rattle.entry.proofs.parts_101.Tie as tie
+use mathlib.Core.Path.{ap}
+use Rattle.record.specs.declared.Record.the-variants.{Rp}
+use Rattle.entry.proofs.Laws.{owning}
 
 empty-requires : tie.Need-empty-requires
 empty-requires c κs = search needs
 
-number-requires : tie.Need-number-requires
-number-requires c κs = search needs
-
-number-requires-2 : tie.Need-number-requires-2
-number-requires-2 c κs = search needs
-
-number-requires-3 : tie.Need-number-requires-3
-number-requires-3 c κs = search needs
-
-text-in-requires : tie.Need-text-in-requires
-text-in-requires c κs = search needs
-
-number-requires-4 : tie.Need-number-requires-4
-number-requires-4 c κs = search needs
-
 returns : tie.Need-returns
-returns c =
-    let p1 = c .before .before .before .before .number .ensures in
-    let p2 = c .before .before .before .number2 .ensures in
-    let p3 = c .before .before .number3 .ensures in
-    let p4 = c .before .text-in .ensures in
-    let p5 = c .number4 .ensures in
-    let u = c .before .before .before .before .before .empty .ensures in
-    λ i. record { wrong = 0; count = 5; each = p1 i ∷ p2 i ∷ p3 i ∷ p4 i ∷ p5 i ∷ u i ∷ u i ∷ u i ∷ u i ∷ u i ∷ [] }
+returns c = ap (owning (Rp (c .before .args .x))) (c .empty .ensures)
 
 pub parts-101-spec : {M : Type 1} → statement M
-parts-101-spec =
-    tie.close
-    (tie.spec
-    empty-requires
-    number-requires
-    number-requires-2
-    number-requires-3
-    text-in-requires
-    number-requires-4
-    returns)
+parts-101-spec = tie.close (tie.spec empty-requires returns)

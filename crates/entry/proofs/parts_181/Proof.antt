@@ -1,55 +1,30 @@
 -- Part by part.
-use mathlib.Core.List.{[], _∷_}
 use borrow.Author.Needs.{needs}
 use Rattle.entry.proofs.parts_181.Statement.{statement}
 use Rattle.entry.proofs.parts_181.Tie as tie
-
-empty-requires : tie.Need-empty-requires
-empty-requires c κs = search needs
-
-number-requires : tie.Need-number-requires
-number-requires c κs = search needs
-
-number-requires-2 : tie.Need-number-requires-2
-number-requires-2 c κs = search needs
-
-number-requires-3 : tie.Need-number-requires-3
-number-requires-3 c κs = search needs
+use mathlib.Core.List.{[], _∷_}
+use Rattle.entry.proofs.Laws.{optional-number, optional-from, optional-to}
 
 optional-requires : tie.Need-optional-requires
 optional-requires c κs = search needs
 
-text-in-requires : tie.Need-text-in-requires
-text-in-requires c κs = search needs
-
 supplement-code-requires : tie.Need-supplement-code-requires
 supplement-code-requires c κs = search needs
 
-text-in-requires-2 : tie.Need-text-in-requires-2
-text-in-requires-2 c κs = search needs
-
 returns : tie.Need-returns
 returns c =
-    let p1 = c .before .before .before .before .before .before .number .ensures in
-    let p2 = c .before .before .before .before .before .number2 .ensures in
-    let p3 = c .before .before .before .before .number3 .ensures in
-    let p4 = c .before .before .before .optional .ensures in
-    let p5 = c .before .before .text-in .ensures in
-    let p6 = c .before .supplement-code .ensures in
-    let p7 = c .text-in2 .ensures in
-    let u = c .before .before .before .before .before .before .before .empty .ensures in
-    λ i. record { wrong = 0; count = 7; each = p1 i ∷ p2 i ∷ p3 i ∷ p4 i ∷ p5 i ∷ p6 i ∷ p7 i ∷ u i ∷ u i ∷ u i ∷ [] }
+    let x = c .before .before .args .x in
+    let n = x .kind in
+    λ i.
+    record {
+      wrong = 0;
+      count = 7;
+      kinds = 0 ∷ 0 ∷ 0 ∷ c .before .optional .ensures i ∷ 1 ∷ 2 ∷ 1 ∷ 0 ∷ 0 ∷ 0 ∷ [];
+      numbers = 181 ∷ x .rp .0 ∷ x .serial .0 ∷ optional-number n i ∷ 0 ∷ 0 ∷ 0 ∷ 0 ∷ 0 ∷ 0 ∷ [];
+      from = 0 ∷ 0 ∷ 0 ∷ optional-from n i ∷ x .text .from ∷ 0 ∷ x .site .from ∷ 0 ∷ 0 ∷ 0 ∷ [];
+      to = 0 ∷ 0 ∷ 0 ∷ optional-to n i ∷ x .text .to ∷ 0 ∷ x .site .to ∷ 0 ∷ 0 ∷ 0 ∷ [];
+      own = c .supplement-code .ensures i;
+    }
 
 pub parts-181-spec : {M : Type 1} → statement M
-parts-181-spec =
-    tie.close
-    (tie.spec
-    empty-requires
-    number-requires
-    number-requires-2
-    number-requires-3
-    optional-requires
-    text-in-requires
-    supplement-code-requires
-    text-in-requires-2
-    returns)
+parts-181-spec = tie.close (tie.spec optional-requires supplement-code-requires returns)

@@ -1,25 +1,32 @@
--- By the bytes of the part.
-use mathlib.Core.Path.{_∙_}
-use Rattle.field.specs.Field.{readField}
-use Rattle.schedule.specs.Code.Kept.{mayJoin}
+-- By what the part is.
 use borrow.Author.Needs.{needs}
 use Rattle.entry.proofs.wrong_part.Statement.{statement}
 use Rattle.entry.proofs.wrong_part.Tie as tie
+use borrow.Author.Tests.{eq-eqb, ne-eqb}
+use Rattle.entry.specs.Code.Judge.{textBytes, partWrong}
 
-slice-aggregate-bytes : tie.Need-slice-aggregate-bytes
-slice-aggregate-bytes c = search needs
+wrong-number-requires : tie.Need-wrong-number-requires
+wrong-number-requires c κs = search needs
 
-bytes-requires : tie.Need-bytes-requires
-bytes-requires c κs = search needs
+returns : tie.Need-returns
+unfolding partWrong
+returns c = rw (eq-eqb _ _ (c .before .if1 .taken)) (c .wrong-number .ensures)
+
+wrong-place-requires : tie.Need-wrong-place-requires
+wrong-place-requires c κs = search needs
+
+returns-2 : tie.Need-returns-2
+unfolding partWrong textBytes
+returns-2 c = rw (ne-eqb _ _ (c .before .before .if1 .left), eq-eqb _ _ (c .before .if2 .taken)) (c .wrong-place .ensures)
 
 read-requires : tie.Need-read-requires
 read-requires c κs = search needs
 
-returns : tie.Need-returns
-returns c =
-    let a = c .before .before .before .before .before .args in
-    let e = c .read .ensures ∙ (λ i. readField (mayJoin (a .c .month) (a .c .schedule)) (a .c) (a .r) (c .before .bytes .ensures i)) in
-    λ i. e i .number
+returns-3 : tie.Need-returns-3
+unfolding partWrong textBytes
+returns-3 c = rw (ne-eqb _ _ (c .before .before .if1 .left), ne-eqb _ _ (c .before .if2 .left)) (λ i. c .read .ensures i .number)
 
 pub wrong-part-spec : {M : Type 1} → statement M
-wrong-part-spec = tie.close (tie.spec slice-aggregate-bytes bytes-requires read-requires returns)
+wrong-part-spec =
+    tie.close
+    (tie.spec wrong-number-requires returns wrong-place-requires returns-2 read-requires returns-3)

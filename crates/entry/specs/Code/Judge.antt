@@ -1,69 +1,114 @@
 -- A record's parts judged one by one.
 -- Assumes nothing.
 use Prim.Native.Nat.{ℕ, zero, suc, _+_}
-use mathlib.Core.Bool.{Bool, false, cond}
-use mathlib.Core.List.{List, [], _∷_}
-use lib.Dec.{eqb}
-use lib.ListN.{length, getD, drop}
+use mathlib.Core.Bool.{Bool, cond, not, _&&_}
+use mathlib.Core.List.{List, [], _∷_, map}
+use lib.Dec.{eqb, leb, ltb}
+use lib.ListN.{length, getD, take, drop}
 use Rattle.line.specs.Fields.{split}
+use Rattle.number.specs.Print.{printNumber}
 use Rattle.supplement.specs.declared.Supplement.{Supplement}
 use Rattle.order.specs.Code.Next.{follow}
-use Rattle.field.specs.Field.{readField}
+use Rattle.field.specs.Field.{ordered, readField}
 use Rattle.field.specs.declared.Rule.{Rule}
 use Rattle.field.specs.declared.Sofar.{Sofar}
 use Rattle.row.specs.Table.{typed, kindField, codeField, rulesFrom, keptRule, noRule, tableOf}
 use Rattle.row.specs.declared.Rules.{Rules}
-use Rattle.printed.specs.declared.Piece.{Piece}
+use Rattle.printed.specs.Printed.{noField, piece}
 use Rattle.record.specs.declared.Record.{Record}
 use Rattle.held.specs.Held.{lentHeld}
-use Rattle.entry.specs.Entry.{cellBytes, cells, inTen}
-use Rattle.entry.specs.declared.Cell.{Cell}
+use Rattle.entry.specs.Entry.{kindOf, numberOf, fromOf, toOf, partList, ownOf, inTen, textOr}
 use Rattle.entry.specs.declared.Entry.{Entry}
 
--- Characters by value as a part.
-abbrev pub inCell : Piece → Cell
-inCell p = record { lent = false; place = record { from = 0; to = 0 }; piece = p }
-
 -- The parts of a record, of which nothing is said yet.
-abbrev pub partsOf : List ℕ → Record → Entry
-partsOf lent r = record { wrong = 0; count = length (cells lent r); each = inTen (cells lent r) }
+abbrev pub partsOf : Record → Entry
+partsOf r =
+    record {
+      wrong = 0;
+      count = length (partList r);
+      kinds = map kindOf (inTen (partList r));
+      numbers = map numberOf (inTen (partList r));
+      from = map fromOf (inTen (partList r));
+      to = map toOf (inTen (partList r));
+      own = piece (ownOf r);
+    }
 
 -- A number that is none of the table's.
 unfoldable pub keptNumber : ℕ → ℕ
 keptNumber n = cond (typed n) 0 n
 
 -- A record's number, whatever bytes its texts lie in.
-abbrev pub numberOf : Record → ℕ
-numberOf r = lentHeld [] r .number
+abbrev pub numberFor : Record → ℕ
+numberFor r = lentHeld [] r .number
 
--- A part of none.
-abbrev pub noCell : Cell
-noCell = inCell (record { length = 0; bytes = [] })
+-- Parts in arrays of plain numbers: what each is, its number, where its text begins and ends; and the characters of the record's own.
+pub record Laid : Type 0 where
+  pub kinds : List ℕ
+  pub numbers : List ℕ
+  pub from : List ℕ
+  pub to : List ℕ
+  pub own : List ℕ
 
--- The bytes of the part with k parts before it.
-abbrev pub partAt : List ℕ → List Cell → ℕ → List ℕ
-partAt lent cs k = cellBytes lent (getD cs k noCell)
+abbrev pub laid : List ℕ → List ℕ → List ℕ → List ℕ → List ℕ → Laid
+laid kinds numbers from to own = record { kinds = kinds; numbers = numbers; from = from; to = to; own = own }
 
--- The rules of a record's fields, by the parts that hold the kind and the drug code.
-abbrev pub tableBy : ℕ → List ℕ → Cell → Cell → Rules
-tableBy n lent kind code = tableOf (rulesFrom n (cellBytes lent kind) (cellBytes lent code))
+-- Those of an entry.
+abbrev pub laidIn : Entry → Laid
+laidIn e = laid (e .kinds) (e .numbers) (e .from) (e .to) (take (e .own .length) (e .own .bytes))
+
+-- The bytes of a part that is no number.
+unfoldable pub textBytes : List ℕ → List ℕ → ℕ → ℕ → ℕ → List ℕ
+textBytes lent own kind from to = cond (eqb kind 1) (textOr lent noField from to) own
+
+-- The bytes of a part.
+unfoldable pub partBytes : List ℕ → List ℕ → ℕ → ℕ → ℕ → ℕ → List ℕ
+partBytes lent own kind number from to = cond (eqb kind 0) (printNumber number) (textBytes lent own kind from to)
+
+-- Those of the part with k before it.
+abbrev pub partAt : List ℕ → Laid → ℕ → List ℕ
+partAt lent p k = partBytes lent (p .own) (getD (p .kinds) k 0) (getD (p .numbers) k 0) (getD (p .from) k 0) (getD (p .to) k 0)
+
+-- k parts that have i before them.
+unfoldable pub partsFrom : List ℕ → Laid → ℕ → ℕ → List (List ℕ)
+partsFrom lent p zero i = []
+partsFrom lent p (suc k) i = partAt lent p i ∷ partsFrom lent p k (i + 1)
+
+-- The character of a kind, by which other fields go: 0 for a part that is not one digit.
+unfoldable pub kindMark : ℕ → ℕ → ℕ
+kindMark kind number = cond (eqb kind 0 && ltb number 10) (48 + number) 0
+
+-- The rules of a record's fields, by its kind's character and the drug code.
+abbrev pub tableBy : ℕ → ℕ → List ℕ → Rules
+tableBy n mark code = tableOf (rulesFrom n (mark ∷ []) code)
 
 -- The rules of a typed record's parts.
-abbrev pub tableIn : ℕ → List ℕ → List Cell → Rules
-tableIn n lent cs = tableBy n lent (getD cs (kindField n) noCell) (getD cs (codeField n) noCell)
+abbrev pub tableIn : ℕ → List ℕ → Laid → Rules
+tableIn n lent p =
+    tableBy n (kindMark (getD (p .kinds) (kindField n) 0) (getD (p .numbers) (kindField n) 0))
+    (textOr lent noField (getD (p .from) (codeField n) 0) (getD (p .to) (codeField n) 0))
+
+-- What is wrong with a number, held as itself: 27 or 30.
+unfoldable pub numberWrong : Sofar → Rule → ℕ → ℕ
+numberWrong c r n = cond ((leb (r .lo) n && leb n (r .hi)) && not (eqb (r .form) 8 && eqb n 5)) (cond (ordered c r n) 0 30) 27
+
+-- What is wrong with a part, by its rule.
+unfoldable pub partWrong : (Supplement → Bool) → Sofar → Rule → List ℕ → List ℕ → ℕ → ℕ → ℕ → ℕ → ℕ
+partWrong joins c r lent own kind number from to = cond (eqb kind 0) (numberWrong c r number) (readField joins c r (textBytes lent own kind from to) .number)
 
 -- What is wrong with the field with i before it.
-abbrev pub wrongAt : (Supplement → Bool) → Sofar → List ℕ → List Rule → List Cell → ℕ → ℕ
-wrongAt joins c lent rs cs i = readField joins c (getD rs i noRule) (partAt lent cs (i + 1)) .number
+abbrev pub wrongAt : (Supplement → Bool) → Sofar → List ℕ → List Rule → Laid → ℕ → ℕ
+wrongAt joins c lent rs p i =
+    partWrong joins c (getD rs i noRule) lent (p .own) (getD (p .kinds) (i + 1) 0) (getD (p .numbers) (i + 1) 0) (getD (p .from) (i + 1) 0)
+    (getD (p .to) (i + 1) 0)
 
 -- The first wrong one of k fields that have i before them.
-unfoldable pub wrongFrom : (Supplement → Bool) → Sofar → List ℕ → List Rule → List Cell → ℕ → ℕ → ℕ
-wrongFrom joins c lent rs cs zero i = 0
-wrongFrom joins c lent rs cs (suc k) i = cond (eqb (wrongAt joins c lent rs cs i) 0) (wrongFrom joins c lent rs cs k (i + 1)) (wrongAt joins c lent rs cs i)
+unfoldable pub wrongFrom : (Supplement → Bool) → Sofar → List ℕ → List Rule → Laid → ℕ → ℕ → ℕ
+wrongFrom joins c lent rs p zero i = 0
+wrongFrom joins c lent rs p (suc k) i = cond (eqb (wrongAt joins c lent rs p i) 0) (wrongFrom joins c lent rs p k (i + 1)) (wrongAt joins c lent rs p i)
 
 -- What is wrong with the fields of a typed record.
-unfoldable pub wrongTyped : (Supplement → Bool) → Sofar → List ℕ → ℕ → List Cell → ℕ
-wrongTyped joins c lent n cs = wrongFrom joins c lent (tableIn n lent cs .each) cs (tableIn n lent cs .count) 0
+unfoldable pub wrongTyped : (Supplement → Bool) → Sofar → List ℕ → ℕ → Laid → ℕ
+wrongTyped joins c lent n p = wrongFrom joins c lent (tableIn n lent p .each) p (tableIn n lent p .count) 0
 
 -- The bytes up to the first comma,
 unfoldable pub upto : List ℕ → List ℕ
@@ -80,7 +125,8 @@ textsWrong joins c [] = 0
 textsWrong joins c (f ∷ fs) = cond (eqb (readField joins c keptRule f .number) 0) (textsWrong joins c fs) (readField joins c keptRule f .number)
 
 -- What is wrong with a record, by its number and its parts.
-unfoldable pub wrongIn : (Supplement → Bool) → Sofar → List ℕ → ℕ → List Cell → ℕ
-wrongIn joins c lent n cs =
-    cond (eqb (follow (c .last) n) 0) (cond (typed n) (wrongTyped joins c lent n cs) (textsWrong joins c (split (partAt lent cs 1))))
+unfoldable pub wrongIn : (Supplement → Bool) → Sofar → List ℕ → ℕ → Laid → ℕ
+wrongIn joins c lent n p =
+    cond (eqb (follow (c .last) n) 0)
+    (cond (typed n) (wrongTyped joins c lent n p) (textsWrong joins c (split (textOr lent noField (getD (p .from) 1 0) (getD (p .to) 1 0)))))
     (follow (c .last) n)

@@ -12,7 +12,7 @@ limit-requires c κs = search needs
 returns : tie.Need-returns
 unfolding roomFor
 returns c =
-    let a = c .before .before .before .args in
+    let a = c .before .before .before .before .args in
     let m = c .before .limit .ensures in
     sym (rw (← m, le-leb (c .before .limit .result) (a .at) (c .if1 .taken)))
 
@@ -28,10 +28,17 @@ fits-requires c κs = search needs
 returns-2 : tie.Need-returns-2
 unfolding roomFor fitsFrom
 returns-2 c =
-    let a = c .before .before .before .before .args in
+    let a = c .before .before .before .before .before .args in
     let m = c .before .before .limit .ensures in
     sym (rw (← m, lt-leb (c .before .before .limit .result) (a .at) (c .before .if1 .left)) (sym (c .fits2 .ensures)))
 
 pub has-room-spec : {M : Type 1} → statement M
 has-room-spec =
-    tie.close (tie.spec limit-requires returns sub-fits sub-fits-2 fits-requires returns-2)
+    tie.close
+    (tie.spec
+    limit-requires
+    returns
+    sub-fits
+    sub-fits-2
+    fits-requires
+    returns-2)

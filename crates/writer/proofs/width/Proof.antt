@@ -1,17 +1,34 @@
--- The bytes of the part.
-use lib.ListN.{length}
+-- By what the part is.
+use borrow.Author.Tests.{eq-eqb, ne-eqb}
 use borrow.Author.Needs.{needs}
+use Rattle.entry.specs.Code.Judge.{textBytes, partBytes}
 use Rattle.writer.proofs.width.Statement.{statement}
 use Rattle.writer.proofs.width.Tie as tie
 
-slice-aggregate-bytes : tie.Need-slice-aggregate-bytes
-slice-aggregate-bytes c = search needs
-
-bytes-requires : tie.Need-bytes-requires
-bytes-requires c κs = search needs
+digits-requires : tie.Need-digits-requires
+digits-requires c κs = search needs
 
 returns : tie.Need-returns
-returns c = λ i. length (c .bytes .ensures i)
+unfolding partBytes
+returns c = rw (eq-eqb _ _ (c .before .if1 .taken)) (c .digits .ensures)
+
+text-width-requires : tie.Need-text-width-requires
+text-width-requires c κs = search needs
+
+returns-2 : tie.Need-returns-2
+unfolding partBytes textBytes
+returns-2 c = rw (ne-eqb _ _ (c .before .before .if1 .left), eq-eqb _ _ (c .before .if2 .taken)) (c .text-width .ensures)
+
+returns-3 : tie.Need-returns-3
+unfolding partBytes textBytes
+returns-3 c = rw (ne-eqb _ _ (c .before .if1 .left), ne-eqb _ _ (c .if2 .left))
 
 pub width-spec : {M : Type 1} → statement M
-width-spec = tie.close (tie.spec slice-aggregate-bytes bytes-requires returns)
+width-spec =
+    tie.close
+    (tie.spec
+    digits-requires
+    returns
+    text-width-requires
+    returns-2
+    returns-3)
