@@ -22,7 +22,7 @@ use Rattle.field.specs.Field.{wrong, readField}
 use Rattle.field.specs.declared.Rule.{Rule}
 use Rattle.field.specs.declared.Sofar.{Sofar}
 use Rattle.row.specs.Table.{rules, counted}
-use Rattle.row.specs.Row.{fine, fieldByField, valuesOf, readRow}
+use Rattle.row.specs.Row.{fine, fieldByField, readRow}
 use Rattle.row.specs.declared.Row.{Row}
 use Rattle.record.specs.Record.{start, recordOf, after, supplements}
 use Rattle.record.specs.Line.{readFields, recordNumber, readParts}
@@ -83,7 +83,7 @@ module _ (joins : Supplement → Bool) (c : Sofar) where
     where
       there : readRow joins c n from fs .number ≡ 0 → RightFields joins c n fs
       there h =
-          cases (counted n fs) (λ a. record { count = a; pass = fields-pass 1 (rules n fs) fs (fine (valuesOf n from fs) _) (simp a at h) })
+          cases (counted n fs) (λ a. record { count = a; pass = fields-pass 1 (rules n fs) fs (fine _) (simp a at h) })
           (λ a. absurd (let z : _≡_ {A = ℕ} 25 0 = simp a at h in omega arith))
 
       back : RightFields joins c n fs → readRow joins c n from fs .number ≡ 0

@@ -28,7 +28,7 @@ use Rattle.field.specs.declared.Rule.{Rule}
 use Rattle.field.specs.declared.Sofar.{Sofar}
 use Rattle.field.specs.declared.Field.{Field}
 use Rattle.row.specs.Table.{rules, counted}
-use Rattle.row.specs.Row.{fieldsAt, fine, fieldByField, valuesOf, readRow}
+use Rattle.row.specs.Row.{fieldsAt, fine, fieldByField, readRow}
 use Rattle.row.specs.declared.Row.{Row}
 use Rattle.record.specs.Record.{start, after, supplements}
 use Rattle.record.specs.Line.{refusal, rowRefusal, recordNumber, readParts, lineAfter, lineAt}
@@ -122,7 +122,7 @@ module _ (joins : Supplement → Bool) (c : Sofar) where
         P (rowRefusal at (readRow joins c m from fs))
     unfolding readRow
     by-row m from fs l h z =
-        cases (counted m fs) (λ a. simp a (by-fields 1 (rules m fs) fs (fine (valuesOf m from fs) _) (omega arith) (omega arith) refl (simp a at z)))
+        cases (counted m fs) (λ a. simp a (by-fields 1 (rules m fs) fs (fine _) (omega arith) (omega arith) refl (simp a at z)))
         (λ a. simp a h)
 
 -- what a record number is told after the last one

@@ -1,4 +1,5 @@
 pub mod Stands
+pub mod Cells
 pub mod Built
 pub mod Whole
 pub mod Same

@@ -5,7 +5,7 @@ use mathlib.Core.Path.{_≡_, refl, sym, ap, ap₂, _∙_}
 use mathlib.Core.Bool.{Bool, true, false}
 use mathlib.Core.List.{List, [], _∷_}
 use native.Mathlib.Omega.{arith}
-use borrow.Author.Tests.{eq-eqb, ne-eqb, eqb-true}
+use borrow.Author.Tests.{eq-eqb, ne-eqb, eqb-true, eqb-false}
 use lib.Dec.{eqb}
 use lib.ListN.{length, length-append}
 use lib.Seq.{slice}
@@ -24,7 +24,7 @@ use Rattle.record.specs.Line.{refusal, fromRow, readFields, numberIn, re
 use Rattle.record.specs.Code.Built.{refusedLine, fieldsLine, Heads}
 use Rattle.record.specs.declared.Answer.the-variants.{Took, Refused}
 use Rattle.record.specs.declared.Head.{Head}
-use Rattle.record.proofs.Built.{right-row, built}
+use Rattle.record.proofs.Built.{right-row, built, right-line, wrong-line}
 
 -- the fields after the first, with its comma
 join-more : (f : List ℕ) (fs : List (List ℕ)) → 1 ≤ length fs → length (join (f ∷ fs)) ≡ length f + 1 + length (join fs)
@@ -78,7 +78,7 @@ module _ (joins : Supplement → Bool) (c : Sofar) (s : List ℕ) (at : ℕ) whe
       no-fields l = rw (by-fields [] (last s at h e q l))
 
       with-fields : lineEnds s e ≡ false → fieldsLine joins c s at n (e + 1) ≡ lineAt joins c s at
-      unfolding lineAt fieldsLine
+      unfolding lineAt
       with-fields l =
           let fs : List (List ℕ) = fieldsAt s (e + 1) in
           let i : e + 1 ≤ length s = more-fit s at h e q l in
@@ -90,8 +90,10 @@ module _ (joins : Supplement → Bool) (c : Sofar) (s : List ℕ) (at : ℕ) whe
           let r = right-row joins c n (e + 1) fs (eqb-true _ _ y) in
           let u : readRow joins c n (e + 1) fs .after + 1 ≡ at + length (join (fieldsAt s at)) + 2 =
           omega (arith, ap (λ (x : Row). x .after) r, ap (λ (x : List (List ℕ)). length (join x)) p, join-more (slice at e s) fs (some s (e + 1) i), size s at h e q) in
-          rw (a, y) (ap₂ (lineAfter c) (ap Took (built joins c s (e + 1) i n (eqb-true _ _ y))) u))
-          (λ y. rw (a, y))
+          sym (right-line joins c s at n (e + 1) w refl (eqb-true _ _ y))
+          ∙ ap₂ (lineAfter c) (ap Took (built joins c s (e + 1) i n (eqb-true _ _ y))) u
+          ∙ rw (a, y))
+          (λ y. sym (wrong-line joins c s at n (e + 1) w refl (eqb-false _ _ y)) ∙ rw (a, y))
 
 -- What a line begins with, by what its number is told.
 module _ (last : ℕ) (s : List ℕ) (at : ℕ) where

@@ -7,12 +7,11 @@ use date::Made;
 use field::Sofar;
 use number::Number;
 use row::Row;
-use row::Value;
 use schedule::Schedule;
 use supplement::Supplement;
 use usage::Instruction;
 ghost use mathlib.Core.Path.{_≡_};
-ghost use Prim.Native.Nat.{_≤_};
+ghost use Prim.Native.Nat.{_+_, _≤_, _<_};
 ghost use lib.ListN.{length};
 ghost use Rattle.date.specs.Date.{readDate};
 ghost use Rattle.usage.specs.Usage.{readUsage};
@@ -21,7 +20,7 @@ ghost use Rattle.number.specs.Number.{readNumber};
 ghost use Rattle.schedule.specs.Code.Kept.{mayJoin};
 ghost use Rattle.record.specs.Record.{textAt, keptField, dateIn, usageIn, supplementIn, withLast, withCode, issued, begun, supplied, drugged, start as startOf, after as afterOf};
 ghost use Rattle.record.specs.Line.{refusal as refusalOf, rowRefusal, numberIn, lineAt, passedOf};
-ghost use Rattle.record.specs.Code.Built.{placeIn, built51, built101, built111, built181, built201, builtOf, refusedLine, fieldsLine, Heads, Leaves};
+ghost use Rattle.record.specs.Code.Built.{Room, placeIn, firstPlace, built51, built101, built111, built181, built201, builtOf, refusedLine, fieldsLine, Heads, Leaves};
 
 // A text as its place in the file: from its first byte to the one after its last.
 pub struct Place {
@@ -157,12 +156,24 @@ pub fn kept_field(s: &[u8], k: Kept, n: usize) -> &[u8]
 
 // ---- what the fields are read as
 
-fn placed(v: Value) -> Place
-    ensures { λ r. ⌜ r ≡ placeIn v ⌝ }
+// The place of the field with k before it, one or more, of those that end there: after the comma of the field before it.
+fn placed(ends: &[usize; 9], k: usize) -> Place
+    requires { ⌜ (1 ≤ k) × (k < 9) × Room (now ends) ⌝ }
+    ensures { λ r. ⌜ r ≡ placeIn (k + 1) (now (ends .entry)) ⌝ }
 {
     Place {
-        from: v.from,
-        to: v.to,
+        from: ends[k - 1] + 1,
+        to: ends[k],
+    }
+}
+
+// The place of the first field, which begins at `from`.
+fn placed_first(ends: &[usize; 9], from: usize) -> Place
+    ensures { λ r. ⌜ r ≡ firstPlace from (now (ends .entry)) ⌝ }
+{
+    Place {
+        from: from,
+        to: ends[0],
     }
 }
 
@@ -198,84 +209,96 @@ fn supplement_at(s: &[u8], p: Place) -> SupplementCode
     }
 }
 
-fn record_51(s: &[u8], v: [Value; 9]) -> Record
-    ensures { λ r. ⌜ r ≡ built51 (now (s .entry)) v ⌝ }
+fn record_51(s: &[u8], from: usize, ends: &[usize; 9]) -> Record
+    ensures { λ r. ⌜ r ≡ built51 (now (s .entry)) from (now (ends .entry)) ⌝ }
 {
     Record::Issue(Record51 {
-        date: date_at(s, placed(v[0])),
+        date: date_at(s, placed_first(ends, from)),
     })
 }
 
-fn record_101(v: [Value; 9]) -> Record
-    ensures { λ r. ⌜ r ≡ built101 v ⌝ }
+fn record_101(numbers: &[u16; 9], ends: &[usize; 9]) -> Record
+    requires { ⌜ Room (now ends) ⌝ }
+    ensures { λ r. ⌜ r ≡ built101 (now (numbers .entry)) (now (ends .entry)) ⌝ }
 {
     Record::Rp(Record101 {
-        rp: RpNumber(v[0].n),
-        form: v[1].n,
-        name: placed(v[2]),
-        quantity: v[3].n,
+        rp: RpNumber(numbers[0]),
+        form: numbers[1],
+        name: placed(ends, 2),
+        quantity: numbers[3],
     })
 }
 
-fn record_111(s: &[u8], v: [Value; 9]) -> Record
-    ensures { λ r. ⌜ r ≡ built111 (now (s .entry)) v ⌝ }
+fn record_111(s: &[u8], numbers: &[u16; 9], ends: &[usize; 9]) -> Record
+    requires { ⌜ Room (now ends) ⌝ }
+    ensures { λ r. ⌜ r ≡ built111 (now (s .entry)) (now (numbers .entry)) (now (ends .entry)) ⌝ }
 {
     Record::Usage(Record111 {
-        rp: RpNumber(v[0].n),
-        kind: v[1].n,
-        code: usage_at(s, placed(v[2])),
-        name: placed(v[3]),
-        times: v[4].n,
+        rp: RpNumber(numbers[0]),
+        kind: numbers[1],
+        code: usage_at(s, placed(ends, 2)),
+        name: placed(ends, 3),
+        times: numbers[4],
     })
 }
 
-fn record_181(s: &[u8], v: [Value; 9]) -> Record
-    ensures { λ r. ⌜ r ≡ built181 (now (s .entry)) v ⌝ }
+fn record_181(s: &[u8], numbers: &[u16; 9], ends: &[usize; 9]) -> Record
+    requires { ⌜ Room (now ends) ⌝ }
+    ensures { λ r. ⌜ r ≡ built181 (now (s .entry)) (now (numbers .entry)) (now (ends .entry)) ⌝ }
 {
     Record::Supplement(Record181 {
-        rp: RpNumber(v[0].n),
-        serial: SupplementSerial(v[1].n),
-        kind: v[2].n,
-        text: placed(v[3]),
-        code: supplement_at(s, placed(v[4])),
-        site: placed(v[5]),
+        rp: RpNumber(numbers[0]),
+        serial: SupplementSerial(numbers[1]),
+        kind: numbers[2],
+        text: placed(ends, 3),
+        code: supplement_at(s, placed(ends, 4)),
+        site: placed(ends, 5),
     })
 }
 
-fn record_201(v: [Value; 9]) -> Record
-    ensures { λ r. ⌜ r ≡ built201 v ⌝ }
+fn record_201(numbers: &[u16; 9], amounts: &[u64; 9], ends: &[usize; 9]) -> Record
+    requires { ⌜ Room (now ends) ⌝ }
+    ensures { λ r. ⌜ r ≡ built201 (now (numbers .entry)) (now (amounts .entry)) (now (ends .entry)) ⌝ }
 {
     Record::Drug(Record201 {
-        rp: RpNumber(v[0].n),
-        serial: DrugSerial(v[1].n),
-        kind: v[2].n,
-        coding: v[3].n,
-        code: placed(v[4]),
-        name: placed(v[5]),
-        amount: v[6].amount,
-        flag: v[7].n,
-        unit: placed(v[8]),
+        rp: RpNumber(numbers[0]),
+        serial: DrugSerial(numbers[1]),
+        kind: numbers[2],
+        coding: numbers[3],
+        code: placed(ends, 4),
+        name: placed(ends, 5),
+        amount: amounts[6],
+        flag: numbers[7],
+        unit: placed(ends, 8),
     })
 }
 
-// The record of a number and its values; `fields` is the place of them all, by which a kept record keeps them.
-fn record_of(n: u16, s: &[u8], v: [Value; 9], fields: Place) -> Record
-    ensures { λ r. ⌜ r ≡ builtOf n (now (s .entry)) v fields ⌝ }
+// The record of a number and what its fields are read as; `fields` is the place of them all, by which a kept record keeps them.
+fn record_of(
+    n: u16,
+    s: &[u8],
+    numbers: &[u16; 9],
+    amounts: &[u64; 9],
+    ends: &[usize; 9],
+    fields: Place,
+) -> Record
+    requires { ⌜ Room (now ends) ⌝ }
+    ensures { λ r. ⌜ r ≡ builtOf n (now (s .entry)) (now (numbers .entry)) (now (amounts .entry)) (now (ends .entry)) fields ⌝ }
 {
     if n == 51 {
-        return record_51(s, v);
+        return record_51(s, fields.from, ends);
     }
     if n == 101 {
-        return record_101(v);
+        return record_101(numbers, ends);
     }
     if n == 111 {
-        return record_111(s, v);
+        return record_111(s, numbers, ends);
     }
     if n == 181 {
-        return record_181(s, v);
+        return record_181(s, numbers, ends);
     }
     if n == 201 {
-        return record_201(v);
+        return record_201(numbers, amounts, ends);
     }
     Record::Kept(Kept {
         number: n,
@@ -379,22 +402,27 @@ pub fn after(c: Sofar, r: Record) -> Sofar
     }
 }
 
-// What the record of a number and its values leaves, told without the record.
-fn left(c: Sofar, n: u16, s: &[u8], v: [Value; 9]) -> Sofar
-    ensures { λ r. ⌜ Leaves c n (now (s .entry)) v r ⌝ }
+// What the record of a number and what its fields are read as leaves, told without the record; the first field begins at `from`.
+fn left(c: Sofar, n: u16, s: &[u8], from: usize, numbers: &[u16; 9], ends: &[usize; 9]) -> Sofar
+    requires { ⌜ Room (now ends) ⌝ }
+    ensures { λ r. ⌜ Leaves c n (now (s .entry)) from (now (numbers .entry)) (now (ends .entry)) r ⌝ }
 {
     if n == 51 {
-        let date = date_at(s, placed(v[0]));
+        let date = date_at(s, placed_first(ends, from));
         return after_issue(c, date.month);
     }
     if n == 101 {
-        return after_rp(c, RpNumber(v[0].n));
+        return after_rp(c, RpNumber(numbers[0]));
     }
     if n == 181 {
-        return after_supplement(c, SupplementSerial(v[1].n), supplement_at(s, placed(v[4])));
+        return after_supplement(
+            c,
+            SupplementSerial(numbers[1]),
+            supplement_at(s, placed(ends, 4)),
+        );
     }
     if n == 201 {
-        return after_drug(c, DrugSerial(v[1].n));
+        return after_drug(c, DrugSerial(numbers[1]));
     }
     after_other(c, n)
 }
@@ -488,19 +516,21 @@ fn read_fields(c: Sofar, s: &[u8], at: usize, n: u16, from: usize) -> Line
     requires { ⌜ from ≤ length (now s) ⌝ }
     ensures { λ r. ⌜ r ≡ fieldsLine (mayJoin (c .month) (c .schedule)) c (now (s .entry)) at n from ⌝ }
 {
-    let w = row::read(c, s, n, from);
+    let mut numbers = [0; 9];
+    let mut amounts = [0; 9];
+    let mut ends = [0; 9];
+    let w = row::read(c, s, n, from, &mut numbers, &mut amounts, &mut ends);
     if w.number != 0 {
         return refused_line(c, refused_fields(at, w));
     }
-    let values = w.values;
     let fields = Place {
         from: from,
         to: w.after - 1,
     };
     Line {
-        answer: Answer::Took(record_of(n, s, values, fields)),
+        answer: Answer::Took(record_of(n, s, &numbers, &amounts, &ends, fields)),
         next: w.after + 1,
-        sofar: left(c, n, s, values),
+        sofar: left(c, n, s, from, &numbers, &ends),
     }
 }
 
@@ -519,13 +549,15 @@ fn pass_fields(c: Sofar, s: &[u8], at: usize, n: u16, from: usize) -> Passed
     requires { ⌜ from ≤ length (now s) ⌝ }
     ensures { λ r. ⌜ r ≡ passedOf (fieldsLine (mayJoin (c .month) (c .schedule)) c (now (s .entry)) at n from) ⌝ }
 {
-    let w = row::read(c, s, n, from);
+    let mut numbers = [0; 9];
+    let mut amounts = [0; 9];
+    let mut ends = [0; 9];
+    let w = row::read(c, s, n, from, &mut numbers, &mut amounts, &mut ends);
     if w.number != 0 {
         return Passed::Refused(refused_fields(at, w));
     }
-    let values = w.values;
     Passed::On(Onward {
-        sofar: left(c, n, s, values),
+        sofar: left(c, n, s, from, &numbers, &ends),
         next: w.after + 1,
     })
 }

@@ -5,25 +5,20 @@ use Prim.Native.Nat.{ℕ, zero, suc, _+_, _-_, _≤_, _<_}
 use mathlib.Core.Path.{_≡_, refl, sym, ap, _∙_}
 use mathlib.Core.Bool.{Bool, true, false}
 use mathlib.Core.List.{List, [], _∷_, _++_, map}
-use native.Mathlib.Nat.{zero-add, add-zero, sub-zero, zero-sub}
-use native.Mathlib.Numerals.{add-one, unary-clauses}
+use native.Mathlib.Nat.{zero-add, add-zero}
 use native.Mathlib.Omega.{arith}
-use borrow.Author.Tests.{eq-eqb, ne-eqb, eqb-true, le-leb}
+use borrow.Author.Tests.{eq-eqb, ne-eqb, le-leb}
 use lib.Dec.{eqb, leb}
-use lib.ListN.{length, getD, drop, set, replicate, length-append, length-map, List·getD-append}
-use lib.Seq.{sets, sets-eq}
+use lib.ListN.{length, getD, length-append, length-map, List·getD-append}
 use Rattle.cells.proofs.Split.{split}
 use Rattle.line.specs.Fields.{join}
 use Rattle.supplement.specs.declared.Supplement.{Supplement}
-use Rattle.field.specs.Field.{free, text, right, readField}
+use Rattle.field.specs.Field.{free, text, readField}
 use Rattle.field.specs.declared.Rule.{Rule}
 use Rattle.field.specs.declared.Sofar.{Sofar}
-use Rattle.field.proofs.Laws.{right-when}
 use Rattle.row.specs.Table.{typed, rules, rulesFrom, rulesOf, counted, noRule, tableOf}
-use Rattle.row.specs.Row.{values, noValue, blanks, inNine, miscounted, fieldByField, valuesOf, fine, readRow}
-use Rattle.row.specs.Code.Walk.{widthOf, valueOf, rowFrom, keptFrom}
-use Rattle.row.specs.declared.Value.{Value}
-use Rattle.row.specs.declared.Row.{Row}
+use Rattle.row.specs.Row.{miscounted, fieldByField, fine, readRow}
+use Rattle.row.specs.Code.Walk.{widthOf, rowFrom, keptFrom}
 
 -- Where fields end, of which the first begins at `at` and a comma or the CR stands after each: after their line and its CR.
 unfoldable end : ℕ → List (List ℕ) → ℕ
@@ -42,53 +37,27 @@ end-line : (at : ℕ) (fs : List (List ℕ)) → 1 ≤ length fs → end at fs �
 end-line at [] h = absurd (omega arith)
 end-line at (f ∷ fs) h = end-join at f fs
 
--- A row with no fault.
-abbrev read : List Value → ℕ → Row
-read vs after = record { number = 0; field = 0; code = 0; place = 0; values = vs; after = after }
-
--- No more values than fields.
-values-most : (at : ℕ) (rs : List Rule) (fs : List (List ℕ)) → length (values at rs fs) ≤ length fs
-unfolding values
-values-most at [] fs = omega arith
-values-most at (r ∷ rs) [] = omega arith
-values-most at (r ∷ rs) (f ∷ fs) =
-    let k : length (values (at + length f + 1) rs fs) ≤ length fs = values-most (at + length f + 1) rs fs in omega arith
-
--- Values put one by one into nine cells.
-drop-blank : (k n : ℕ) → drop k (replicate n noValue) ≡ replicate (n - k) noValue
-drop-blank zero n = rw sub-zero
-drop-blank (suc k) zero = rw zero-sub
-drop-blank (suc k) (suc n) = simp unary-clauses (drop-blank k n)
-
-in-nine : (vs : List Value) → length vs ≤ 9 → sets blanks 0 vs ≡ inNine vs
-in-nine vs h = sets-eq vs blanks 0 (omega arith) ∙ ap (λ (t : List Value). vs ++ t) (rw zero-add (drop-blank (length vs) 9))
-
 module _ (joins : Supplement → Bool) (c : Sofar) where
   -- the fields of a typed record, after i others, whose rules stand in `all` from there on
-  typed-from : (rs : List Rule) (fs : List (List ℕ)) (i at : ℕ) (all : List Rule) (vs : List Value) → length fs ≡ length rs →
+  typed-from : (rs : List Rule) (fs : List (List ℕ)) (i at : ℕ) (all : List Rule) → length fs ≡ length rs →
       ((j : ℕ) → j < length rs → getD all (i + j) noRule ≡ getD rs j noRule) →
-      rowFrom joins c i at all fs vs ≡ fieldByField joins c (i + 1) rs fs (read (sets vs i (values at rs fs)) (end at fs))
-  unfolding rowFrom fieldByField values end
-  typed-from [] [] i at all vs h a = refl
-  typed-from [] (f ∷ fs) i at all vs h a = absurd (omega arith)
-  typed-from (r ∷ rs) [] i at all vs h a = absurd (omega arith)
-  typed-from (r ∷ rs) (f ∷ fs) i at all vs h a =
+      rowFrom joins c i at all fs ≡ fieldByField joins c (i + 1) rs fs (fine (end at fs))
+  unfolding rowFrom fieldByField end
+  typed-from [] [] i at all h a = refl
+  typed-from [] (f ∷ fs) i at all h a = absurd (omega arith)
+  typed-from (r ∷ rs) [] i at all h a = absurd (omega arith)
+  typed-from (r ∷ rs) (f ∷ fs) i at all h a =
       let g : getD all i noRule ≡ r = rw add-zero at (a 0 (omega arith)) in
       split (eqb (readField joins c r f .number) 0)
       (λ e.
-      let w : readField joins c r f ≡ right r f = right-when joins c r f (eqb-true _ _ e) in
-      simp (g, w)
-      (typed-from rs fs (i + 1) (at + length f + 1) all (set vs i (valueOf at f (right r f))) (omega arith)
-      (λ j l. let z : i + 1 + j ≡ i + suc j = omega arith in ap (λ (k : ℕ). getD all k noRule) z ∙ a (suc j) (omega arith))
-      ∙ ap (λ (k : ℕ).
-      fieldByField joins c (i + 1 + 1) rs fs
-      (read (sets (set vs i (valueOf at f (right r f))) k (values (at + length f + 1) rs fs)) (end (at + length f + 1) fs)))
-      (add-one i)))
+      simp (g, e)
+      (typed-from rs fs (i + 1) (at + length f + 1) all (omega arith)
+      (λ j l. let z : i + 1 + j ≡ i + suc j = omega arith in ap (λ (k : ℕ). getD all k noRule) z ∙ a (suc j) (omega arith))))
       (λ e. simp (g, e))
 
   -- the fields of a kept record
   kept-from : (fs : List (List ℕ)) (i at : ℕ) →
-      keptFrom joins c i at fs ≡ fieldByField joins c i (map (λ f. text free 200) fs) fs (read blanks (end at fs))
+      keptFrom joins c i at fs ≡ fieldByField joins c i (map (λ f. text free 200) fs) fs (fine (end at fs))
   unfolding keptFrom fieldByField end
   kept-from [] i at = refl
   kept-from (f ∷ fs) i at =
@@ -98,11 +67,11 @@ module _ (joins : Supplement → Bool) (c : Sofar) where
 
   module _ (n at : ℕ) (fs : List (List ℕ)) where
     row-counted : 1 ≤ length fs → length fs ≡ length (rules n fs) →
-        readRow joins c n at fs ≡ fieldByField joins c 1 (rules n fs) fs (fine (valuesOf n at fs) (at + length (join fs) + 1))
+        readRow joins c n at fs ≡ fieldByField joins c 1 (rules n fs) fs (fine (at + length (join fs) + 1))
     unfolding readRow counted
     row-counted h k = rw (le-leb 1 (length fs) h, eq-eqb (length fs) (length (rules n fs)) k)
 
-    typed-rules : typed n ≡ true → rules n fs ≡ rulesOf n fs
+    pub typed-rules : typed n ≡ true → rules n fs ≡ rulesOf n fs
     unfolding rules
     typed-rules h = rw h
 
@@ -125,29 +94,23 @@ module _ (joins : Supplement → Bool) (c : Sofar) where
         (λ d. split (eqb n 181) (λ e. simp (a, b, d, e) (omega arith, omega arith)) (λ e. simp (a, b, d, e) (omega arith, omega arith)))))
 
     -- A typed record with as many fields as its table,
-    pub typed-row : typed n ≡ true → length fs ≡ length (rulesOf n fs) → length fs ≤ 9 →
-        rowFrom joins c 0 at (tableOf (rulesOf n fs) .each) fs blanks ≡ readRow joins c n at fs
-    typed-row h k m =
+    pub typed-row : typed n ≡ true → length fs ≡ length (rulesOf n fs) →
+        rowFrom joins c 0 at (tableOf (rulesOf n fs) .each) fs ≡ readRow joins c n at fs
+    typed-row h k =
         let l : 1 ≤ length fs = omega (arith, table-size) in
         let y : rules n fs ≡ rulesOf n fs = typed-rules h in
-        let v : valuesOf n at fs ≡ values at (rulesOf n fs) fs = rw (h, y) in
-        let w : sets blanks 0 (values at (rulesOf n fs) fs) ≡ inNine (values at (rulesOf n fs) fs) =
-        in-nine (values at (rulesOf n fs) fs) (omega (arith, values-most at (rulesOf n fs) fs)) in
-        let z : read (sets blanks 0 (values at (rulesOf n fs) fs)) (end at fs) ≡ fine (values at (rulesOf n fs) fs) (at + length (join fs) + 1) =
-        rw (w, end-line at fs l) in
-        typed-from (rulesOf n fs) fs 0 at (tableOf (rulesOf n fs) .each) blanks k (λ j b. rw zero-add (List·getD-append (rulesOf n fs) _ noRule j b))
-        ∙ ap (λ (x : Row). fieldByField joins c 1 (rulesOf n fs) fs x) z
-        ∙ sym (row-counted l (k ∙ ap length (sym y)) ∙ rw (v, y))
+        typed-from (rulesOf n fs) fs 0 at (tableOf (rulesOf n fs) .each) k (λ j b. rw zero-add (List·getD-append (rulesOf n fs) _ noRule j b))
+        ∙ ap (λ (x : ℕ). fieldByField joins c 1 (rulesOf n fs) fs (fine x)) (end-line at fs l)
+        ∙ sym (row-counted l (k ∙ ap length (sym y)) ∙ rw y)
 
     -- one that is kept,
     pub kept-row : typed n ≡ false → 1 ≤ length fs → keptFrom joins c 1 at fs ≡ readRow joins c n at fs
     unfolding rules
     kept-row h l =
         let y : rules n fs ≡ map (λ f. text free 200) fs = rw h in
-        let v : valuesOf n at fs ≡ [] = rw h in
         kept-from fs 1 at
-        ∙ ap (λ (x : ℕ). fieldByField joins c 1 (map (λ f. text free 200) fs) fs (read blanks x)) (end-line at fs l)
-        ∙ sym (row-counted l (sym (ap length y ∙ length-map fs (λ f. text free 200))) ∙ rw (v, y))
+        ∙ ap (λ (x : ℕ). fieldByField joins c 1 (map (λ f. text free 200) fs) fs (fine x)) (end-line at fs l)
+        ∙ sym (row-counted l (sym (ap length y ∙ length-map fs (λ f. text free 200))) ∙ rw y)
 
     -- one with another number of fields,
     pub miscounted-row : typed n ≡ true → (length fs ≡ length (rulesOf n fs) → ⊥) → readRow joins c n at fs ≡ miscounted

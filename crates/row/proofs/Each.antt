@@ -18,7 +18,7 @@ use Rattle.field.specs.declared.Rule.{Rule}
 use Rattle.field.specs.declared.Sofar.{Sofar}
 use Rattle.field.proofs.Laws.{passes}
 use Rattle.row.specs.Table.{nth, typed, rules, rulesFrom, counted}
-use Rattle.row.specs.Row.{fieldByField, fine, valuesOf, readRow}
+use Rattle.row.specs.Row.{fieldByField, fine, readRow}
 use Rattle.row.specs.declared.Row.{Row}
 
 module _ (joins : Supplement → Bool) (c : Sofar) where
@@ -52,7 +52,7 @@ module _ (joins : Supplement → Bool) (c : Sofar) where
     pub right-fields : (j : ℕ) (d : Rule) → j < length fs → wrong joins c (getD (rules n fs) j d) (getD fs j []) ≡ 0
     unfolding readRow
     right-fields j d l =
-        let k : fieldByField joins c 1 (rules n fs) fs (fine (valuesOf n at fs) (at + length (join fs) + 1)) .number ≡ 0 = simp counts at h in
+        let k : fieldByField joins c 1 (rules n fs) fs (fine (at + length (join fs) + 1)) .number ≡ 0 = simp counts at h in
         no-fault _ _ (each-field 1 (rules n fs) fs _ k j d (omega (arith, as-many)) l)
 
   -- a supplement that is read is one that may stand

@@ -1,6 +1,7 @@
 pub mod Walk
 pub mod Parted
 pub mod Nine
+pub mod Noted
 pub mod Bridge
 pub mod Same
 pub mod Each

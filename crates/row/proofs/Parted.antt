@@ -8,87 +8,100 @@ use native.Mathlib.Nat.{add-zero}
 use native.Mathlib.Omega.{arith}
 use borrow.Author.Tests.{eqb-true, eq-eqb, lt-ltb, le-ltb, ltb-true, ltb-false}
 use lib.Dec.{ltb, eqb}
-use lib.ListN.{length, getD, set, replicate, length-set}
+use lib.ListN.{length, getD, set, length-set}
 use lib.Seq.{slice, getD-set-same, getD-set-other}
 use Rattle.cells.proofs.Split.{split}
 use Rattle.cells.proofs.Alike.{and-left, and-right}
 use Rattle.line.specs.Fields.{fieldEnd}
 use Rattle.row.specs.Table.{nth, kindField, codeField, rulesFrom}
-use Rattle.row.specs.Row.{fieldsAt, lineEnds}
-use Rattle.row.specs.Code.Walk.{widthOf, cutFrom, marks}
-use Rattle.row.specs.declared.Cut.{Cut}
+use Rattle.row.specs.Row.{fieldsAt, lineEnds, zeros}
+use Rattle.row.specs.Code.Walk.{widthOf, cutCount, cutEnds, marks}
 use Rattle.row.proofs.Walk.{within, size, first, last, more, more-fit}
 
 -- ---- what the pass notes
 -- the ends before the kth stay,
-cut-keeps : (fs : List (List ℕ)) (k at : ℕ) (ends : List ℕ) (j : ℕ) → j < k → getD (cutFrom k at fs ends .ends) j 0 ≡ getD ends j 0
-unfolding cutFrom
-cut-keeps [] k at ends j h = refl
-cut-keeps (f ∷ fs) k at ends j h =
+cut-keeps : (fs : List (List ℕ)) (k at : ℕ) (es : List ℕ) (j : ℕ) → j < k → getD (cutEnds k at fs es) j 0 ≡ getD es j 0
+unfolding cutEnds
+cut-keeps [] k at es j h = refl
+cut-keeps (f ∷ fs) k at es j h =
     split (ltb k 9)
     (λ e. rw e
-    (cut-keeps fs (k + 1) (at + length f + 1) (set ends k (at + length f)) j (omega arith)
-    ∙ getD-set-other ends k j (at + length f) 0 (λ q. omega (arith, q))))
+    (cut-keeps fs (k + 1) (at + length f + 1) (set es k (at + length f)) j (omega arith)
+    ∙ getD-set-other es k j (at + length f) 0 (λ q. omega (arith, q))))
     (λ e. rw e)
 
 -- the others are where the fields end,
-cut-marks : (fs : List (List ℕ)) (k at : ℕ) (ends : List ℕ) → k + length fs ≤ 9 → length ends ≡ 9 → marks (cutFrom k at fs ends .ends) k at fs ≡ true
-unfolding cutFrom marks
-cut-marks [] k at ends h l = refl
-cut-marks (f ∷ fs) k at ends h l =
+cut-marks : (fs : List (List ℕ)) (k at : ℕ) (es : List ℕ) → k + length fs ≤ 9 → length es ≡ 9 → marks (cutEnds k at fs es) k at fs ≡ true
+unfolding cutEnds marks
+cut-marks [] k at es h l = refl
+cut-marks (f ∷ fs) k at es h l =
     let b : k < 9 = omega arith in
-    let e : getD (cutFrom (k + 1) (at + length f + 1) fs (set ends k (at + length f)) .ends) k 0 ≡ at + length f =
-    cut-keeps fs (k + 1) (at + length f + 1) (set ends k (at + length f)) k (omega arith)
-    ∙ getD-set-same ends k (at + length f) 0 (omega (arith, l)) in
+    let e : getD (cutEnds (k + 1) (at + length f + 1) fs (set es k (at + length f))) k 0 ≡ at + length f =
+    cut-keeps fs (k + 1) (at + length f + 1) (set es k (at + length f)) k (omega arith)
+    ∙ getD-set-same es k (at + length f) 0 (omega (arith, l)) in
     rw (lt-ltb k 9 b, e, eq-eqb (at + length f) (at + length f) refl)
-    (cut-marks fs (k + 1) (at + length f + 1) (set ends k (at + length f)) (omega arith) (length-set ends k (at + length f) ∙ l))
+    (cut-marks fs (k + 1) (at + length f + 1) (set es k (at + length f)) (omega arith) (length-set es k (at + length f) ∙ l))
 
 -- and they are counted, or are more than nine.
-cut-count : (fs : List (List ℕ)) (k at : ℕ) (ends : List ℕ) → k ≤ 9 → cutFrom k at fs ends .count ≡ cond (ltb 9 (k + length fs)) 10 (k + length fs)
-unfolding cutFrom
-cut-count [] k at ends h = rw (add-zero, le-ltb 9 k h)
-cut-count (f ∷ fs) k at ends h =
+cut-count : (fs : List (List ℕ)) (k : ℕ) → k ≤ 9 → cutCount k fs ≡ cond (ltb 9 (k + length fs)) 10 (k + length fs)
+unfolding cutCount
+cut-count [] k h = rw (add-zero, le-ltb 9 k h)
+cut-count (f ∷ fs) k h =
     split (ltb k 9)
     (λ e.
     let l : k < 9 = ltb-true k 9 e in
     let z : k + 1 + length fs ≡ k + suc (length fs) = omega arith in
-    rw e (cut-count fs (k + 1) (at + length f + 1) (set ends k (at + length f)) (omega arith) ∙ ap (λ (n : ℕ). cond (ltb 9 n) 10 n) z))
+    rw e (cut-count fs (k + 1) (omega arith) ∙ ap (λ (n : ℕ). cond (ltb 9 n) 10 n) z))
     (λ e. let l : 9 ≤ k = ltb-false k 9 e in rw (e, lt-ltb 9 (k + suc (length fs)) (omega arith)))
 
 -- ---- the pass, one field further
-module _ (s : List ℕ) (at : ℕ) (h : at ≤ length s) (k : ℕ) (ends : List ℕ) where
-  module _ (e : ℕ) (q : e ≡ fieldEnd s at) (b : k < 9) where
-    pub cut-last : lineEnds s e ≡ true → cutFrom k at (fieldsAt s at) ends ≡ record { count = k + 1; ends = set ends k e }
-    unfolding cutFrom
-    cut-last l = rw (last s at h e q l, lt-ltb k 9 b, size s at h e q)
+-- What is left of the pass gives the count and the ends that the whole of it gives.
+pub record Cut (k at : ℕ) (fs : List (List ℕ)) (es : List ℕ) (count : ℕ) (to : List ℕ) : Type 0 where
+  pub count-is : count ≡ cutCount k fs
+  pub ends-are : to ≡ cutEnds k at fs es
 
-    pub cut-more : lineEnds s e ≡ false → cutFrom k at (fieldsAt s at) ends ≡ cutFrom (k + 1) (e + 1) (fieldsAt s (e + 1)) (set ends k e)
-    unfolding cutFrom
-    cut-more l = rw (more s at h e q l, lt-ltb k 9 b, size s at h e q)
+module _ (s : List ℕ) (at : ℕ) (h : at ≤ length s) (k : ℕ) (es : List ℕ) (count : ℕ) (to : List ℕ) (w : Cut k at (fieldsAt s at) es count to) where
+  module _ (e : ℕ) (q : e ≡ fieldEnd s at) (b : k < 9) where
+    pub cut-last : lineEnds s e ≡ true → (k + 1 ≡ count) × (set es k e ≡ to)
+    unfolding cutCount cutEnds
+    cut-last l = (
+      sym (w .count-is ∙ rw (last s at h e q l, lt-ltb k 9 b)),
+      sym (w .ends-are ∙ rw (last s at h e q l, lt-ltb k 9 b, size s at h e q)),
+    )
+
+    pub cut-more : lineEnds s e ≡ false → Cut (k + 1) (e + 1) (fieldsAt s (e + 1)) (set es k e) count to
+    unfolding cutCount cutEnds
+    cut-more l = record {
+      count-is = w .count-is ∙ rw (more s at h e q l, lt-ltb k 9 b);
+      ends-are = w .ends-are ∙ rw (more s at h e q l, lt-ltb k 9 b, size s at h e q);
+    }
 
   -- after nine there is one more
-  pub cut-full : 9 ≤ k → cutFrom k at (fieldsAt s at) ends ≡ record { count = 10; ends = ends }
-  unfolding cutFrom
+  pub cut-full : 9 ≤ k → (10 ≡ count) × (es ≡ to)
+  unfolding cutCount cutEnds
   cut-full b =
       split (lineEnds s (fieldEnd s at))
-      (λ l. rw (last s at h (fieldEnd s at) refl l, le-ltb k 9 b))
-      (λ l. rw (more s at h (fieldEnd s at) refl l, le-ltb k 9 b))
+      (λ l. (
+        sym (w .count-is ∙ rw (last s at h (fieldEnd s at) refl l, le-ltb k 9 b)),
+        sym (w .ends-are ∙ rw (last s at h (fieldEnd s at) refl l, le-ltb k 9 b)),
+      ))
+      (λ l. (
+        sym (w .count-is ∙ rw (more s at h (fieldEnd s at) refl l, le-ltb k 9 b)),
+        sym (w .ends-are ∙ rw (more s at h (fieldEnd s at) refl l, le-ltb k 9 b)),
+      ))
 
--- A line with a number of fields up to nine is one of that count, and its fields end there.
-module _ (fs : List (List ℕ)) (at n : ℕ) (m : n ≤ 9) where
-  pub counted-as : cutFrom 0 at fs (replicate 9 0) .count ≡ n → length fs ≡ n
+-- A line with a number of fields up to nine is one of that count.
+module _ (fs : List (List ℕ)) (n : ℕ) (m : n ≤ 9) where
+  counted-as : cutCount 0 fs ≡ n → length fs ≡ n
   counted-as h =
       split (ltb 9 (0 + length fs))
-      (λ e. absurd (let z : 10 ≡ n = sym (cut-count fs 0 at (replicate 9 0) (omega arith) ∙ rw e) ∙ h in omega arith))
-      (λ e. let z : 0 + length fs ≡ n = sym (cut-count fs 0 at (replicate 9 0) (omega arith) ∙ rw e) ∙ h in omega arith)
+      (λ e. absurd (let z : 10 ≡ n = sym (cut-count fs 0 (omega arith) ∙ rw e) ∙ h in omega arith))
+      (λ e. let z : 0 + length fs ≡ n = sym (cut-count fs 0 (omega arith) ∙ rw e) ∙ h in omega arith)
 
-  pub not-counted : (cutFrom 0 at fs (replicate 9 0) .count ≡ n → ⊥) → length fs ≡ n → ⊥
+  not-counted : (cutCount 0 fs ≡ n → ⊥) → length fs ≡ n → ⊥
   not-counted h e =
       let z : 0 + length fs ≡ n = omega arith in
-      h (cut-count fs 0 at (replicate 9 0) (omega arith) ∙ rw (le-ltb 9 (0 + length fs) (omega arith)) z)
-
-  pub marked : length fs ≡ n → marks (cutFrom 0 at fs (replicate 9 0) .ends) 0 at fs ≡ true
-  marked h = cut-marks fs 0 at (replicate 9 0) (omega arith) refl
+      h (cut-count fs 0 (omega arith) ∙ rw (le-ltb 9 (0 + length fs) (omega arith)) z)
 
 -- ---- the fields of a line by where they end
 -- A field is the bytes from one offset to another.
@@ -197,11 +210,13 @@ width-of n =
     })))))
 
 -- A line that was parted has as many fields as its record, and they end where it was noted; or it has not as many.
-module _ (fs : List (List ℕ)) (at n : ℕ) (r : Cut) (p : r ≡ cutFrom 0 at fs (replicate 9 0)) (w : ℕ) (q : w ≡ widthOf n) where
-  pub as-wide : r .count ≡ w → (length fs ≡ widthOf n) × (marks (r .ends) 0 at fs ≡ true)
-  as-wide h =
-      let l : length fs ≡ widthOf n = counted-as fs at (widthOf n) (width-of n .most) (ap (λ (c : Cut). c .count) (sym p) ∙ h ∙ q) in
-      (l, ap (λ (c : Cut). marks (c .ends) 0 at fs) p ∙ marked fs at (widthOf n) (width-of n .most) l)
+module _ (fs : List (List ℕ)) (n r : ℕ) (p : r ≡ cutCount 0 fs) (w : ℕ) (q : w ≡ widthOf n) where
+  pub as-wide : r ≡ w → length fs ≡ widthOf n
+  as-wide h = counted-as fs (widthOf n) (width-of n .most) (sym p ∙ h ∙ q)
 
-  pub not-as-wide : (r .count ≡ w → ⊥) → length fs ≡ widthOf n → ⊥
-  not-as-wide h = not-counted fs at (widthOf n) (width-of n .most) (λ e. h (ap (λ (c : Cut). c .count) p ∙ e ∙ sym q))
+  pub not-as-wide : (r ≡ w → ⊥) → length fs ≡ widthOf n → ⊥
+  not-as-wide h = not-counted fs (widthOf n) (width-of n .most) (λ e. h (p ∙ e ∙ sym q))
+
+pub marked : (fs : List (List ℕ)) (at n : ℕ) (es : List ℕ) → es ≡ cutEnds 0 at fs zeros → length fs ≡ widthOf n → marks es 0 at fs ≡ true
+marked fs at n es p l =
+    ap (λ (x : List ℕ). marks x 0 at fs) p ∙ cut-marks fs 0 at zeros (omega (arith, l, width-of n .most)) refl

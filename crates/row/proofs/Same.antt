@@ -14,7 +14,7 @@ use Rattle.field.specs.declared.Sofar.{Sofar}
 use Rattle.field.specs.declared.Field.{Field}
 use Rattle.field.proofs.Laws.{same-joins}
 use Rattle.row.specs.Table.{rules, counted}
-use Rattle.row.specs.Row.{miscounted, refusedAt, fine, fieldByField, valuesOf, readRow}
+use Rattle.row.specs.Row.{miscounted, refusedAt, fine, fieldByField, readRow}
 use Rattle.row.specs.declared.Row.{Row}
 
 module _ (joins joins′ : Supplement → Bool) (same : (x : Supplement) → joins x ≡ joins′ x) where
@@ -30,4 +30,4 @@ module _ (joins joins′ : Supplement → Bool) (same : (x : Supplement) → joi
   unfolding readRow
   same-row c n at fs =
       ap (λ (w : Row). cond (counted n fs) w miscounted)
-      (same-fields c 1 (rules n fs) fs (fine (valuesOf n at fs) (at + length (join fs) + 1)))
+      (same-fields c 1 (rules n fs) fs (fine (at + length (join fs) + 1)))

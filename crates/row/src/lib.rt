@@ -5,31 +5,22 @@ use field::Sofar;
 ghost use mathlib.Core.Path.{_≡_};
 ghost use mathlib.Core.Bool.{true};
 ghost use Prim.Native.Nat.{_≤_};
-ghost use lib.ListN.{length, replicate};
+ghost use lib.ListN.{length};
 ghost use Rattle.cells.specs.Text.{bytes};
 ghost use Rattle.cells.specs.Code.Same.{eqs};
 ghost use Rattle.field.specs.Field.{rule as ruleOf};
 ghost use Rattle.schedule.specs.Code.Kept.{mayJoin};
 ghost use Rattle.row.specs.Table.{mark as markOf, tableOf, rules51, rules101, rules111, rules181, rules201, kindField, codeField, rulesFrom, rulesOf, keptRule, typed as typedOf, nth};
-ghost use Rattle.row.specs.Row.{fieldsAt, lineEnds, blanks, refusedAt, miscounted as miscountedRow, readRow};
-ghost use Rattle.row.specs.Code.Walk.{needWith, drugNeed, nameNeedOf, widthOf, cutFrom, marks, rowFrom, keptFrom};
+ghost use Rattle.row.specs.Row.{fieldsAt, lineEnds, refusedAt, miscounted as miscountedRow, fine as fineRow, readRow, zeros, numbersOf, amountsOf, endsOf};
+ghost use Rattle.row.specs.Code.Walk.{needWith, drugNeed, nameNeedOf, widthOf, cutCount, cutEnds, marks, rowFrom, keptFrom, Walked, Filled};
 
-// What was read of a field, and its place in the file.
-pub struct Value {
-    pub n: u16,
-    pub amount: u64,
-    pub from: usize,
-    pub to: usize,
-}
-
-// The number 0, the values of a typed record's fields, and the place after the CR that ends them; or the refusal's number, the field, counted
-// from 1 (0 for 25), and for 29 the code's own number and place.
+// The number 0, and the place after the CR that ends the fields; or the refusal's number, the field, counted from 1 (0 for 25), and for 29 the
+// code's own number and place.
 pub struct Row {
     pub number: u8,
     pub field: usize,
     pub code: u8,
     pub place: usize,
-    pub values: [Value; 9],
     pub after: usize,
 }
 
@@ -246,18 +237,11 @@ pub fn nth_field(s: &[u8], at: usize, n: usize) -> &[u8]
     &s[from..to]
 }
 
-// Where the fields of a line end: how many there are, 10 for any number above nine; and the ends of the first nine.
-struct Cut {
-    count: usize,
-    ends: [usize; 9],
-}
-
-// Parts the line at a place, in one pass.
-fn part_line(s: &[u8], at: usize) -> Cut
+// Parts the line at a place, in one pass: how many its fields are, 10 for any number above nine; and where the first nine end, into an array.
+fn part_line(s: &[u8], at: usize, ends: &mut [usize; 9]) -> usize
     requires { ⌜ at ≤ length (now s) ⌝ }
-    ensures { λ r. ⌜ r ≡ cutFrom 0 at (fieldsAt (now (s .entry)) at) (replicate 9 0) ⌝ }
+    ensures { λ k. ⌜ (k ≡ cutCount 0 (fieldsAt (now (s .entry)) at)) × (now (ends .exit) ≡ cutEnds 0 at (fieldsAt (now (s .entry)) at) (now (ends .entry))) ⌝ }
 {
-    let mut ends = [0; 9];
     let mut from = at;
     let mut k: usize = 0;
     while k < 9 {
@@ -265,22 +249,16 @@ fn part_line(s: &[u8], at: usize) -> Cut
         ends[k] = end;
         k += 1;
         if line_ends(s, end) {
-            return Cut {
-                count: k,
-                ends: ends,
-            };
+            return k;
         }
         from = end + 1;
     }
-    Cut {
-        count: 10,
-        ends: ends,
-    }
+    10
 }
 
 // The nth field, counted from 1, of those that end there.
-fn cut_field(s: &[u8], at: usize, ends: [usize; 9], n: usize) -> &[u8]
-    requires { ⌜ (at ≤ length (now s)) × (1 ≤ n) × (n ≤ length (fieldsAt (now s) at)) × (n ≤ 9) × (marks ends 0 at (fieldsAt (now s) at) ≡ true) ⌝ }
+fn cut_field<'a>(s: &'a [u8], at: usize, ends: &[usize; 9], n: usize) -> &'a [u8]
+    requires { ⌜ (at ≤ length (now s)) × (1 ≤ n) × (n ≤ length (fieldsAt (now s) at)) × (n ≤ 9) × (marks (now ends) 0 at (fieldsAt (now s) at) ≡ true) ⌝ }
     ensures { λ r. ⌜ now r ≡ nth n (fieldsAt (now (s .entry)) at) ⌝ }
 {
     let to = ends[n - 1];
@@ -374,8 +352,8 @@ fn width(n: u16) -> usize
 }
 
 // The rules of the typed record whose fields stand at a place, as many as it has, and end there.
-fn table(n: u16, s: &[u8], at: usize, ends: [usize; 9]) -> Rules
-    requires { ⌜ (at ≤ length (now s)) × (length (fieldsAt (now s) at) ≡ widthOf n) × (marks ends 0 at (fieldsAt (now s) at) ≡ true) ⌝ }
+fn table(n: u16, s: &[u8], at: usize, ends: &[usize; 9]) -> Rules
+    requires { ⌜ (at ≤ length (now s)) × (length (fieldsAt (now s) at) ≡ widthOf n) × (marks (now ends) 0 at (fieldsAt (now s) at) ≡ true) ⌝ }
     ensures { λ t. ⌜ t ≡ tableOf (rulesOf n (fieldsAt (now (s .entry)) at)) ⌝ }
 {
     rules_of(
@@ -399,17 +377,6 @@ pub fn typed(n: u16) -> bool
     (n == 51) | ((n == 101) | ((n == 111) | ((n == 181) | (n == 201))))
 }
 
-fn blank() -> [Value; 9]
-    ensures { λ r. ⌜ r ≡ blanks ⌝ }
-{
-    [Value {
-        n: 0,
-        amount: 0,
-        from: 0,
-        to: 0,
-    }; 9]
-}
-
 // A refusal at a field.
 fn refused(field: usize, f: Field) -> Row
     ensures { λ r. ⌜ r ≡ refusedAt field f ⌝ }
@@ -419,7 +386,6 @@ fn refused(field: usize, f: Field) -> Row
         field: field,
         code: f.code,
         place: f.place,
-        values: blank(),
         after: 0,
     }
 }
@@ -433,22 +399,36 @@ fn miscounted() -> Row
         field: 0,
         code: 0,
         place: 0,
-        values: blank(),
         after: 0,
     }
 }
 
-// Field by field, by the rules of a typed record.
-fn read_typed(c: Sofar, s: &[u8], at: usize, ends: [usize; 9], t: Rules) -> Row
-    requires { ⌜ (at ≤ length (now s)) × (t .count ≤ 9) × (length (fieldsAt (now s) at) ≡ t .count) × (marks ends 0 at (fieldsAt (now s) at) ≡ true) ⌝ }
-    ensures { λ r. ⌜ r ≡ rowFrom (mayJoin (c .month) (c .schedule)) c 0 at (t .each) (fieldsAt (now (s .entry)) at) blanks ⌝ }
+// No refusal.
+fn fine(after: usize) -> Row
+    ensures { λ r. ⌜ r ≡ fineRow after ⌝ }
 {
-    let mut values = [Value {
-        n: 0,
-        amount: 0,
-        from: 0,
-        to: 0,
-    }; 9];
+    Row {
+        number: 0,
+        field: 0,
+        code: 0,
+        place: 0,
+        after: after,
+    }
+}
+
+// Field by field, by the rules of a typed record; what the fields are read as goes into two arrays.
+fn read_typed(
+    c: Sofar,
+    s: &[u8],
+    at: usize,
+    t: Rules,
+    numbers: &mut [u16; 9],
+    amounts: &mut [u64; 9],
+    ends: &[usize; 9],
+) -> Row
+    requires { ⌜ (at ≤ length (now s)) × (t .count ≤ 9) × (length (fieldsAt (now s) at) ≡ t .count) × (marks (now ends) 0 at (fieldsAt (now s) at) ≡ true) ⌝ }
+    ensures { λ r. ⌜ (r ≡ rowFrom (mayJoin (c .month) (c .schedule)) c 0 at (t .each) (fieldsAt (now (s .entry)) at)) × Walked r (t .each) (fieldsAt (now (s .entry)) at) (now (numbers .entry)) (now (amounts .entry)) (now (numbers .exit)) (now (amounts .exit)) ⌝ }
+{
     let mut from = at;
     let mut i: usize = 0;
     while i < t.count {
@@ -457,23 +437,12 @@ fn read_typed(c: Sofar, s: &[u8], at: usize, ends: [usize; 9], t: Rules) -> Row
         if f.number != 0 {
             return refused(i + 1, f);
         }
-        values[i] = Value {
-            n: f.n,
-            amount: f.amount,
-            from: from,
-            to: to,
-        };
+        numbers[i] = f.n;
+        amounts[i] = f.amount;
         from = to + 1;
         i += 1;
     }
-    Row {
-        number: 0,
-        field: 0,
-        code: 0,
-        place: 0,
-        values: values,
-        after: from,
-    }
+    fine(from)
 }
 
 // Field by field, texts of at most 200 bytes.
@@ -490,42 +459,60 @@ fn read_kept(c: Sofar, s: &[u8], at: usize) -> Row
             return refused(i, f);
         }
         if line_ends(s, to) {
-            return Row {
-                number: 0,
-                field: 0,
-                code: 0,
-                place: 0,
-                values: blank(),
-                after: to + 1,
-            };
+            return fine(to + 1);
         }
         from = to + 1;
         i += 1;
     }
 }
 
-// A typed record that has as many fields as its table.
-fn read_counted(c: Sofar, s: &[u8], n: u16, at: usize) -> Row
-    requires { ⌜ (at ≤ length (now s)) × (typedOf n ≡ true) ⌝ }
-    ensures { λ r. ⌜ r ≡ readRow (mayJoin (c .month) (c .schedule)) c n at (fieldsAt (now (s .entry)) at) ⌝ }
+// A typed record that has as many fields as its table. The arrays come as zeros, and say nothing of a record that is refused.
+fn read_counted(
+    c: Sofar,
+    s: &[u8],
+    n: u16,
+    at: usize,
+    numbers: &mut [u16; 9],
+    amounts: &mut [u64; 9],
+    ends: &mut [usize; 9],
+) -> Row
+    requires { ⌜ (at ≤ length (now s)) × (typedOf n ≡ true) × (now numbers ≡ zeros) × (now amounts ≡ zeros) × (now ends ≡ zeros) ⌝ }
+    ensures { λ r. ⌜ (r ≡ readRow (mayJoin (c .month) (c .schedule)) c n at (fieldsAt (now (s .entry)) at)) × Filled n at (fieldsAt (now (s .entry)) at) r (now (numbers .exit)) (now (amounts .exit)) (now (ends .exit)) ⌝ }
 {
-    let parted = part_line(s, at);
-    if parted.count != width(n) {
+    if part_line(s, at, ends) != width(n) {
         return miscounted();
     }
-    let ends = parted.ends;
-    read_typed(c, s, at, ends, table(n, s, at, ends))
+    let t = table(n, s, at, ends);
+    read_typed(c, s, at, t, numbers, amounts, ends)
 }
 
-// Reads the fields at a place of the file, of a record of this number.
-pub fn read(c: Sofar, s: &[u8], n: u16, at: usize) -> Row
-    ensures { λ r. ⌜ r ≡ readRow (mayJoin (c .month) (c .schedule)) c n at (fieldsAt (now (s .entry)) at) ⌝ }
+// Reads the fields at a place of the file, of a record of this number. Three arrays take, of a typed record that is not refused, each field's
+// number, its amount, and the place of the comma or CR after it, with zeros after the last field; of any other, zeros.
+pub fn read(
+    c: Sofar,
+    s: &[u8],
+    n: u16,
+    at: usize,
+    numbers: &mut [u16; 9],
+    amounts: &mut [u64; 9],
+    ends: &mut [usize; 9],
+) -> Row
+    ensures { λ r. ⌜ (r ≡ readRow (mayJoin (c .month) (c .schedule)) c n at (fieldsAt (now (s .entry)) at)) × (now (numbers .exit) ≡ numbersOf n r (fieldsAt (now (s .entry)) at)) × (now (amounts .exit) ≡ amountsOf n r (fieldsAt (now (s .entry)) at)) × (now (ends .exit) ≡ endsOf n r at (fieldsAt (now (s .entry)) at)) ⌝ }
 {
+    *numbers = [0; 9];
+    *amounts = [0; 9];
+    *ends = [0; 9];
     if s.len() < at {
         return miscounted();
     }
-    if typed(n) {
-        return read_counted(c, s, n, at);
+    if !typed(n) {
+        return read_kept(c, s, at);
     }
-    read_kept(c, s, at)
+    let w = read_counted(c, s, n, at, numbers, amounts, ends);
+    if w.number != 0 {
+        *numbers = [0; 9];
+        *amounts = [0; 9];
+        *ends = [0; 9];
+    }
+    w
 }

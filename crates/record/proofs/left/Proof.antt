@@ -7,11 +7,8 @@ use Rattle.record.specs.Code.Built.{builtOf}
 use Rattle.record.proofs.left.Statement.{statement}
 use Rattle.record.proofs.left.Tie as tie
 
-array-copy-out-placed : tie.Need-array-copy-out-placed
-array-copy-out-placed c = search needs
-
-placed-requires : tie.Need-placed-requires
-placed-requires c κs = search needs
+placed-first-requires : tie.Need-placed-first-requires
+placed-first-requires c κs = search needs
 
 date-at-requires : tie.Need-date-at-requires
 date-at-requires c κs = search needs
@@ -21,28 +18,25 @@ after-issue-requires c κs = search needs
 
 returns : tie.Need-returns
 unfolding builtOf
-returns c p =
-    rw (eq-eqb _ 51 (c .before .before .before .before .if1 .taken), c .after-issue .ensures, c .before .date-at .ensures, c .before .before .placed .ensures)
+returns c ms to =
+    rw (eq-eqb _ 51 (c .before .before .before .if1 .taken), c .after-issue .ensures, c .before .date-at .ensures, c .before .before .placed-first .ensures)
 
-element-copy-out-t14 : tie.Need-element-copy-out-t14
-element-copy-out-t14 c = search needs
+element-copy-out-t12 : tie.Need-element-copy-out-t12
+element-copy-out-t12 c = search needs
 
 after-rp-requires : tie.Need-after-rp-requires
 after-rp-requires c κs = search needs
 
 returns-2 : tie.Need-returns-2
 unfolding builtOf
-returns-2 c p =
-    rw (c .after-rp .ensures, ne-eqb _ 51 (c .before .before .if1 .left), eq-eqb _ 101 (c .before .if2 .taken))
+returns-2 c ms to =
+    rw (c .after-rp .ensures, ne-eqb _ 51 (c .before .before .before .if1 .left), eq-eqb _ 101 (c .before .before .if2 .taken))
 
-element-copy-out-t18 : tie.Need-element-copy-out-t18
-element-copy-out-t18 c = search needs
+element-copy-out-t16 : tie.Need-element-copy-out-t16
+element-copy-out-t16 c = search needs
 
-array-copy-out-placed-2 : tie.Need-array-copy-out-placed-2
-array-copy-out-placed-2 c = search needs
-
-placed-requires-2 : tie.Need-placed-requires-2
-placed-requires-2 c κs = search needs
+placed-requires : tie.Need-placed-requires
+placed-requires c κs = search needs
 
 supplement-at-requires : tie.Need-supplement-at-requires
 supplement-at-requires c κs = search needs
@@ -52,26 +46,25 @@ after-supplement-requires c κs = search needs
 
 returns-3 : tie.Need-returns-3
 unfolding builtOf
-returns-3 c p =
-    rw (c .after-supplement .ensures, c .before .supplement-at .ensures, c .before .before .placed2 .ensures, c .before .before .before .before .if3 .taken)
+returns-3 c ms to =
+    rw (c .after-supplement .ensures, c .before .supplement-at .ensures, c .before .before .placed .ensures, c .before .before .before .before .if3 .taken)
 
-element-copy-out-t27 : tie.Need-element-copy-out-t27
-element-copy-out-t27 c = search needs
+element-copy-out-t22 : tie.Need-element-copy-out-t22
+element-copy-out-t22 c = search needs
 
 after-drug-requires : tie.Need-after-drug-requires
 after-drug-requires c κs = search needs
 
 returns-4 : tie.Need-returns-4
 unfolding builtOf
-returns-4 c p =
-    rw (c .after-drug .ensures, c .before .if4 .taken)
+returns-4 c ms to = rw (c .after-drug .ensures, c .before .before .if4 .taken)
 
 after-other-requires : tie.Need-after-other-requires
 after-other-requires c κs = search needs
 
 returns-5 : tie.Need-returns-5
 unfolding builtOf
-returns-5 c p =
+returns-5 c ms to =
     let n = c .before .before .before .before .before .before .args .n in
     cases (eqb n 111) (λ e. rw (c .after-other .ensures, eqb-true n 111 e))
     (λ e.
@@ -88,21 +81,19 @@ pub left-spec : {M : Type 1} → statement M
 left-spec =
     tie.close
     (tie.spec
-    array-copy-out-placed
-    placed-requires
+    placed-first-requires
     date-at-requires
     after-issue-requires
     returns
-    element-copy-out-t14
+    element-copy-out-t12
     after-rp-requires
     returns-2
-    element-copy-out-t18
-    array-copy-out-placed-2
-    placed-requires-2
+    element-copy-out-t16
+    placed-requires
     supplement-at-requires
     after-supplement-requires
     returns-3
-    element-copy-out-t27
+    element-copy-out-t22
     after-drug-requires
     returns-4
     after-other-requires

@@ -1,4 +1,4 @@
--- From the values by their places.
+-- From the cells by their places.
 use borrow.Author.Needs.{needs}
 use Rattle.record.proofs.record_111.Statement.{statement}
 use Rattle.record.proofs.record_111.Tie as tie
@@ -9,26 +9,20 @@ element-copy-out-t6 c = search needs
 element-copy-out-t10 : tie.Need-element-copy-out-t10
 element-copy-out-t10 c = search needs
 
-array-copy-out-placed : tie.Need-array-copy-out-placed
-array-copy-out-placed c = search needs
-
 placed-requires : tie.Need-placed-requires
 placed-requires c κs = search needs
 
 usage-at-requires : tie.Need-usage-at-requires
 usage-at-requires c κs = search needs
 
-array-copy-out-placed-2 : tie.Need-array-copy-out-placed-2
-array-copy-out-placed-2 c = search needs
-
 placed-requires-2 : tie.Need-placed-requires-2
 placed-requires-2 c κs = search needs
 
-element-copy-out-t22 : tie.Need-element-copy-out-t22
-element-copy-out-t22 c = search needs
+element-copy-out-t16 : tie.Need-element-copy-out-t16
+element-copy-out-t16 c = search needs
 
 returns : tie.Need-returns
-returns c = rw (c .before .before .usage-at .ensures, c .before .before .before .placed .ensures, c .placed2 .ensures)
+returns c = rw (c .before .before .usage-at .ensures, c .before .before .before .placed .ensures, c .before .placed2 .ensures)
 
 pub record-111-spec : {M : Type 1} → statement M
 record-111-spec =
@@ -36,10 +30,8 @@ record-111-spec =
     (tie.spec
     element-copy-out-t6
     element-copy-out-t10
-    array-copy-out-placed
     placed-requires
     usage-at-requires
-    array-copy-out-placed-2
     placed-requires-2
-    element-copy-out-t22
+    element-copy-out-t16
     returns)

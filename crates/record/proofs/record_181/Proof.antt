@@ -1,4 +1,4 @@
--- From the values by their places.
+-- From the cells by their places.
 use borrow.Author.Needs.{needs}
 use Rattle.record.proofs.record_181.Statement.{statement}
 use Rattle.record.proofs.record_181.Tie as tie
@@ -12,14 +12,8 @@ element-copy-out-t10 c = search needs
 element-copy-out-t14 : tie.Need-element-copy-out-t14
 element-copy-out-t14 c = search needs
 
-array-copy-out-placed : tie.Need-array-copy-out-placed
-array-copy-out-placed c = search needs
-
 placed-requires : tie.Need-placed-requires
 placed-requires c κs = search needs
-
-array-copy-out-placed-2 : tie.Need-array-copy-out-placed-2
-array-copy-out-placed-2 c = search needs
 
 placed-requires-2 : tie.Need-placed-requires-2
 placed-requires-2 c κs = search needs
@@ -27,14 +21,11 @@ placed-requires-2 c κs = search needs
 supplement-at-requires : tie.Need-supplement-at-requires
 supplement-at-requires c κs = search needs
 
-array-copy-out-placed-3 : tie.Need-array-copy-out-placed-3
-array-copy-out-placed-3 c = search needs
-
 placed-requires-3 : tie.Need-placed-requires-3
 placed-requires-3 c κs = search needs
 
 returns : tie.Need-returns
-returns c = rw (c .before .before .supplement-at .ensures, c .before .before .before .before .before .placed .ensures, c .before .before .before .placed2 .ensures, c .placed3 .ensures)
+returns c = rw (c .before .supplement-at .ensures, c .before .before .before .placed .ensures, c .before .before .placed2 .ensures, c .placed3 .ensures)
 
 pub record-181-spec : {M : Type 1} → statement M
 record-181-spec =
@@ -43,11 +34,8 @@ record-181-spec =
     element-copy-out-t6
     element-copy-out-t10
     element-copy-out-t14
-    array-copy-out-placed
     placed-requires
-    array-copy-out-placed-2
     placed-requires-2
     supplement-at-requires
-    array-copy-out-placed-3
     placed-requires-3
     returns)

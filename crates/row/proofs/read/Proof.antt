@@ -1,13 +1,19 @@
--- Typed or kept, inside the file.
-use mathlib.Core.Path.{sym, ap, _∙_}
-use mathlib.Core.Bool.{Bool}
+-- Typed or kept, inside the file; nothing is noted of a row that is refused.
+use Prim.Native.Nat.{ℕ}
+use mathlib.Core.Path.{_≡_, refl, sym, ap, _∙_}
+use mathlib.Core.Bool.{Bool, true, false}
+use mathlib.Core.List.{List}
 use native.Mathlib.Omega.{arith}
+use borrow.Author.Needs.{needs}
+use borrow.Author.Tests.{not-true, not-false}
 use Rattle.supplement.specs.declared.Supplement.{Supplement}
 use Rattle.schedule.specs.Code.Kept.{mayJoin}
+use Rattle.row.specs.Table.{typed}
 use Rattle.row.specs.Row.{fieldsAt, readRow}
+use Rattle.row.specs.declared.Row.{Row}
 use Rattle.row.proofs.Walk.{outside, some}
 use Rattle.row.proofs.Bridge.{kept-row, no-fields}
-use borrow.Author.Needs.{needs}
+use Rattle.row.proofs.Noted.{kept-noted, refused-noted, right-noted, none-noted, all-noted}
 use Rattle.row.proofs.read.Statement.{statement}
 use Rattle.row.proofs.read.Tie as tie
 
@@ -16,31 +22,52 @@ miscounted-requires c κs = search needs
 
 returns : tie.Need-returns
 returns c =
-    let a = c .before .before .before .args in
+    let a = c .before .before .before .before .before .before .args in
     let j : Supplement → Bool = mayJoin (a .c .month) (a .c .schedule) in
-    c .miscounted .ensures ∙
-    sym
-    (ap (readRow j (a .c) (a .n) (a .at)) (outside (a .s .now) (a .at) (omega arith)) ∙ no-fields j (a .c) (a .n) (a .at))
+    let w : Row = c .miscounted .result in
+    let m = none-noted (a .n) w (a .at) (fieldsAt (a .s .now) (a .at))
+    (refused-noted (a .n) w (λ z. let y : _≡_ {A = ℕ} 25 0 = ap (λ (x : Row). x .number) (sym (c .miscounted .ensures)) ∙ z in absurd (omega arith))) in (
+      c .miscounted .ensures
+          ∙ sym
+          (ap (readRow j (a .c) (a .n) (a .at)) (outside (a .s .now) (a .at) (omega arith)) ∙ no-fields j (a .c) (a .n) (a .at)),
+      m .0,
+      m .1,
+      m .2,
+    )
 
 typed-requires : tie.Need-typed-requires
 typed-requires c κs = search needs
 
-read-counted-requires : tie.Need-read-counted-requires
-read-counted-requires c κs = (omega arith, sym (c .before .typed .ensures) ∙ c .if2 .taken)
-
-returns-2 : tie.Need-returns-2
-returns-2 c = search needs
-
 read-kept-requires : tie.Need-read-kept-requires
 read-kept-requires c κs = search needs
 
+returns-2 : tie.Need-returns-2
+returns-2 c =
+    let a = c .before .before .before .before .before .before .before .before .args in
+    let j : Supplement → Bool = mayJoin (a .c .month) (a .c .schedule) in
+    let fs : List (List ℕ) = fieldsAt (a .s .now) (a .at) in
+    let k : typed (a .n) ≡ false = sym (c .before .before .typed .ensures) ∙ not-true _ (c .before .if2 .taken) in
+    let m = none-noted (a .n) (c .read-kept .result) (a .at) fs (kept-noted (a .n) (c .read-kept .result) k) in
+    (c .read-kept .ensures ∙ kept-row j (a .c) (a .n) (a .at) fs k (some (a .s .now) (a .at) (omega arith)), m .0, m .1, m .2)
+
+read-counted-requires : tie.Need-read-counted-requires
+read-counted-requires c κs = (omega arith, sym (c .before .before .before .before .typed .ensures) ∙ not-false _ (c .before .before .before .if2 .left), refl, refl, refl)
+
 returns-3 : tie.Need-returns-3
 returns-3 c =
-    let a = c .before .before .before .before .before .args in
-    let j : Supplement → Bool = mayJoin (a .c .month) (a .c .schedule) in
-    c .read-kept .ensures ∙
-    kept-row j (a .c) (a .n) (a .at) (fieldsAt (a .s .now) (a .at)) (sym (c .before .before .typed .ensures) ∙ c .before .if2 .left)
-    (some (a .s .now) (a .at) (omega arith))
+    let a = c .before .before .before .before .before .before .before .before .before .before .before .before .before .before .before .before .args in
+    let r = c .before .before .before .before .before .read-counted in
+    let m = none-noted (a .n) (r .result) (a .at) (fieldsAt (a .s .now) (a .at)) (refused-noted (a .n) (r .result) (c .before .before .before .if3 .taken)) in
+    (r .ensures .0, m .0, m .1, m .2)
+
+returns-4 : tie.Need-returns-4
+returns-4 c =
+    let a = c .before .before .before .before .before .before .before .before .before .before .before .before .before .args in
+    let r = c .before .before .read-counted in
+    let k : typed (a .n) ≡ true = sym (c .before .before .before .before .before .before .before .typed .ensures) ∙ not-false _ (c .before .before .before .before .before .before .if2 .left) in
+    let m = all-noted (a .n) (r .result) (a .at) (fieldsAt (a .s .now) (a .at)) (right-noted (a .n) (r .result) k (c .if3 .left)) in
+    let q = r .ensures .1 (c .if3 .left) in
+    (r .ensures .0, q .0 ∙ m .0, q .1 ∙ m .1, q .2 ∙ m .2)
 
 pub read-spec : {M : Type 1} → statement M
 read-spec =
@@ -49,7 +76,8 @@ read-spec =
     miscounted-requires
     returns
     typed-requires
-    read-counted-requires
-    returns-2
     read-kept-requires
-    returns-3)
+    returns-2
+    read-counted-requires
+    returns-3
+    returns-4)

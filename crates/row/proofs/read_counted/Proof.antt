@@ -1,19 +1,22 @@
 -- By the number of fields: as many as the table has, or 25.
-use Prim.Native.Nat.{ℕ}
-use mathlib.Core.Path.{_≡_, sym, ap, _∙_}
-use mathlib.Core.Bool.{Bool}
+use Prim.Native.Nat.{ℕ, _≤_}
+use mathlib.Core.Path.{_≡_, sym, ap, ap₂, _∙_}
+use mathlib.Core.Bool.{Bool, true}
 use mathlib.Core.List.{List}
 use native.Mathlib.Omega.{arith}
 use borrow.Author.Needs.{needs}
 use lib.ListN.{length}
 use Rattle.supplement.specs.declared.Supplement.{Supplement}
 use Rattle.schedule.specs.Code.Kept.{mayJoin}
-use Rattle.row.specs.Table.{rulesOf}
-use Rattle.row.specs.Row.{fieldsAt, blanks}
-use Rattle.row.specs.Code.Walk.{widthOf, rowFrom}
+use Rattle.field.specs.declared.Rule.{Rule}
+use Rattle.row.specs.Table.{rules, rulesOf}
+use Rattle.row.specs.Row.{fieldsAt, numbers, amounts, inNine}
+use Rattle.row.specs.Code.Walk.{widthOf, marks, rowFrom, numbersFrom, amountsFrom, cutEnds}
+use Rattle.row.specs.declared.Row.{Row}
 use Rattle.row.specs.declared.Rules.{Rules}
-use Rattle.row.proofs.Bridge.{table-width, typed-row, miscounted-row}
-use Rattle.row.proofs.Parted.{width-of, as-wide, not-as-wide}
+use Rattle.row.proofs.Bridge.{table-width, typed-rules, typed-row, miscounted-row}
+use Rattle.row.proofs.Parted.{width-of, as-wide, not-as-wide, marked}
+use Rattle.row.proofs.Noted.{numbers-noted, amounts-noted, ends-noted}
 use Rattle.row.proofs.read_counted.Statement.{statement}
 use Rattle.row.proofs.read_counted.Tie as tie
 
@@ -28,49 +31,73 @@ miscounted-requires c κs = search needs
 
 returns : tie.Need-returns
 returns c =
-    let a = c .before .before .before .before .before .before .args in
-    let p = c .before .before .before .before .part-line in
-    let w = c .before .before .before .width in
+    let f = c .before .before .before .before .before .before in
+    let a = f .args in
+    let p = c .before .before .before .part-line in
+    let w = c .before .before .width in
     let fs : List (List ℕ) = fieldsAt (a .s .now) (a .at) in
-    let j : Supplement → Bool = mayJoin (a .c .month) (a .c .schedule) in
-    c .miscounted .ensures
-    ∙ sym
-    (miscounted-row j (a .c) (a .n) (a .at) fs (c .before .before .before .before .before .before .pre .1)
-    (λ l. not-as-wide fs (a .at) (a .n) (p .result) (p .ensures) (w .result) (w .ensures) (c .before .if1 .taken) (l ∙ table-width j (a .c) (a .n) (a .at) fs)))
+    let j : Supplement → Bool = mayJoin (a .c .month) (a .c .schedule) in (
+      c .miscounted .ensures
+          ∙ sym
+          (miscounted-row j (a .c) (a .n) (a .at) fs (f .pre .1)
+          (λ l. not-as-wide fs (a .n) (p .result) (p .ensures .0) (w .result) (w .ensures) (c .before .if1 .taken) (l ∙ table-width j (a .c) (a .n) (a .at) fs))),
+      λ z. absurd (let y : _≡_ {A = ℕ} 25 0 = ap (λ (x : Row). x .number) (sym (c .miscounted .ensures)) ∙ z in omega arith),
+    )
 
 table-requires : tie.Need-table-requires
 table-requires c κs =
-    let a = c .before .before .before .before .before .before .args in
-    let p = c .before .before .before .before .part-line in
-    let w = c .before .before .before .width in
-    let k = as-wide (fieldsAt (a .s .now) (a .at)) (a .at) (a .n) (p .result) (p .ensures) (w .result) (w .ensures) (c .before .if1 .left) in
-    (c .before .before .before .before .before .before .pre .0, k .0, k .1)
+    let f = c .before .before .before .before .before .before in
+    let a = f .args in
+    let p = c .before .before .before .part-line in
+    let w = c .before .before .width in
+    let fs : List (List ℕ) = fieldsAt (a .s .now) (a .at) in
+    let k = as-wide fs (a .n) (p .result) (p .ensures .0) (w .result) (w .ensures) (c .before .if1 .left) in
+    (f .pre .0, k, marked fs (a .at) (a .n) _ (p .ensures .1 ∙ ap (λ (es : List ℕ). cutEnds 0 (a .at) fs es) (f .pre .4)) k)
 
 read-typed-requires : tie.Need-read-typed-requires
 read-typed-requires c κs =
-    let f = c .before in
-    let a = f .before .before .before .before .before .before .args in
-    let p = f .before .before .before .before .part-line in
-    let w = f .before .before .before .width in
+    let f = c .before .before .before .before .before .before .before .before .before .before in
+    let a = f .args in
+    let p = c .before .before .before .before .before .before .before .part-line in
+    let w = c .before .before .before .before .before .before .width in
     let fs : List (List ℕ) = fieldsAt (a .s .now) (a .at) in
-    let k = as-wide fs (a .at) (a .n) (p .result) (p .ensures) (w .result) (w .ensures) (f .before .if1 .left) in
-    let t : c .table .result .count ≡ widthOf (a .n) =
-    ap (λ (t : Rules). t .count) (c .table .ensures) ∙ table-width (mayJoin (a .c .month) (a .c .schedule)) (a .c) (a .n) (a .at) fs in
-    (f .before .before .before .before .before .before .pre .0, omega (arith, t, width-of (a .n) .most), k .0 ∙ sym t, k .1)
+    let k = as-wide fs (a .n) (p .result) (p .ensures .0) (w .result) (w .ensures) (c .before .before .before .before .before .if1 .left) in
+    let t : c .before .before .before .table .result .count ≡ widthOf (a .n) =
+    ap (λ (t : Rules). t .count) (c .before .before .before .table .ensures) ∙ table-width (mayJoin (a .c .month) (a .c .schedule)) (a .c) (a .n) (a .at) fs in (
+      f .pre .0,
+      omega (arith, t, width-of (a .n) .most),
+      k ∙ sym t,
+      marked fs (a .at) (a .n) _ (p .ensures .1 ∙ ap (λ (es : List ℕ). cutEnds 0 (a .at) fs es) (f .pre .4)) k,
+    )
 
 returns-2 : tie.Need-returns-2
 returns-2 c =
-    let f = c .before .before in
-    let a = f .before .before .before .before .before .before .args in
-    let p = f .before .before .before .before .part-line in
-    let w = f .before .before .before .width in
+    let f = c .before .before .before .before .before .before .before .before .before .before .before in
+    let a = f .args in
+    let p = c .before .before .before .before .before .before .before .before .part-line in
+    let w = c .before .before .before .before .before .before .before .width in
+    let t = c .before .before .before .before .table in
     let fs : List (List ℕ) = fieldsAt (a .s .now) (a .at) in
-    let k = as-wide fs (a .at) (a .n) (p .result) (p .ensures) (w .result) (w .ensures) (f .before .if1 .left) in
     let j : Supplement → Bool = mayJoin (a .c .month) (a .c .schedule) in
-    let l : length fs ≡ length (rulesOf (a .n) fs) = k .0 ∙ sym (table-width j (a .c) (a .n) (a .at) fs) in
-    c .read-typed .ensures
-    ∙ ap (λ (t : Rules). rowFrom j (a .c) 0 (a .at) (t .each) fs blanks) (c .before .table .ensures)
-    ∙ typed-row j (a .c) (a .n) (a .at) fs (f .before .before .before .before .before .before .pre .1) l (omega (arith, k .0, width-of (a .n) .most))
+    let k = as-wide fs (a .n) (p .result) (p .ensures .0) (w .result) (w .ensures) (c .before .before .before .before .before .before .if1 .left) in
+    let l : length fs ≡ length (rulesOf (a .n) fs) = k ∙ sym (table-width j (a .c) (a .n) (a .at) fs) in
+    let m : length fs ≤ 9 = omega (arith, k, width-of (a .n) .most) in
+    let y : rulesOf (a .n) fs ≡ rules (a .n) fs = sym (typed-rules j (a .c) (a .n) (a .at) fs (f .pre .1)) in (
+      c .read-typed .ensures .0
+          ∙ ap (λ (x : Rules). rowFrom j (a .c) 0 (a .at) (x .each) fs) (t .ensures)
+          ∙ typed-row j (a .c) (a .n) (a .at) fs (f .pre .1) l,
+      λ z. (
+        c .read-typed .ensures .1 z .0
+            ∙ ap₂ (λ (x : Rules) (ns : List ℕ). numbersFrom 0 (x .each) fs ns) (t .ensures) (f .pre .2)
+            ∙ numbers-noted fs m (rulesOf (a .n) fs) l
+            ∙ ap (λ (rs : List Rule). inNine (numbers rs fs)) y,
+        c .read-typed .ensures .1 z .1
+            ∙ ap₂ (λ (x : Rules) (ms : List ℕ). amountsFrom 0 (x .each) fs ms) (t .ensures) (f .pre .3)
+            ∙ amounts-noted fs m (rulesOf (a .n) fs) l
+            ∙ ap (λ (rs : List Rule). inNine (amounts rs fs)) y,
+        p .ensures .1 ∙ ap (λ (es : List ℕ). cutEnds 0 (a .at) fs es) (f .pre .4) ∙ ends-noted fs m (a .at),
+      ),
+    )
 
 pub read-counted-spec : {M : Type 1} → statement M
 read-counted-spec =

@@ -109,15 +109,15 @@ returns c =
 line-ends-requires : tie.Need-line-ends-requires Inv-loop μ-loop
 line-ends-requires c κs = search needs
 
-blank-requires : tie.Need-blank-requires Inv-loop μ-loop
-blank-requires c κs = search needs
-
-add-t16 : tie.Need-add-t16 Inv-loop μ-loop
-add-t16 c =
-    let f = c .before .before .before .before .before .before .before .before in
+add-fine : tie.Need-add-fine Inv-loop μ-loop
+add-fine c =
+    let f = c .before .before .before .before .before .before .before in
     let a = f .before .before .before .args in
     let l = f .before .loop in
     omega (arith, within (a .s .now) (l .from) (l .inv .0) (f .field-end .result) (f .field-end .ensures))
+
+fine-requires : tie.Need-fine-requires Inv-loop μ-loop
+fine-requires c κs = search needs
 
 returns-2 : tie.Need-returns-2 Inv-loop μ-loop
 unfolding keptFrom
@@ -128,8 +128,9 @@ returns-2 c =
     let u = c .before .before .before .before .before .before .before .kept-rule in
     let r = c .before .before .before .before .before .read in
     let ends = sym (c .before .before .line-ends .ensures) ∙ c .before .if2 .taken in
-    rw (c .blank .ensures)
-    (sym (last-field (mayJoin (a .c .month) (a .c .schedule)) (a .c) (a .s .now) (l .from) (l .inv .0) (f .field-end .result) (f .field-end .ensures) (u .result) (u .ensures) (r .result) (r .ensures) (l .i) (c .before .before .before .if1 .left) ends) ∙ l .inv .2)
+    c .fine .ensures
+    ∙ sym (last-field (mayJoin (a .c .month) (a .c .schedule)) (a .c) (a .s .now) (l .from) (l .inv .0) (f .field-end .result) (f .field-end .ensures) (u .result) (u .ensures) (r .result) (r .ensures) (l .i) (c .before .before .before .if1 .left) ends)
+    ∙ l .inv .2
 
 add-from : tie.Need-add-from Inv-loop μ-loop
 add-from c =
@@ -181,8 +182,8 @@ read-kept-spec =
     refused-requires
     returns
     line-ends-requires
-    blank-requires
-    add-t16
+    add-fine
+    fine-requires
     returns-2
     add-from
     add-i

@@ -16,15 +16,16 @@ use Rattle.cells.proofs.Alike.{and-left, and-right}
 use Rattle.line.specs.Fields.{fieldEnd}
 use Rattle.supplement.specs.declared.Supplement.{Supplement}
 use Rattle.schedule.specs.Code.Kept.{mayJoin}
-use Rattle.field.specs.Field.{readField}
+use Rattle.field.specs.Field.{right, readField}
 use Rattle.field.specs.declared.Rule.{Rule}
 use Rattle.field.specs.declared.Sofar.{Sofar}
 use Rattle.field.specs.declared.Field.{Field}
+use Rattle.field.proofs.Laws.{right-when}
 use Rattle.line.proofs.Laws.{part}
-use Rattle.row.specs.Row.{fieldsAt, blanks, refusedAt, lineEnds}
+use Rattle.row.specs.Row.{fieldsAt, refusedAt, lineEnds}
 use Rattle.row.specs.Table.{noRule}
-use Rattle.row.specs.Code.Walk.{rowFrom, marks}
-use Rattle.row.specs.declared.Value.{Value}
+use Rattle.row.specs.Code.Walk.{rowFrom, numbersFrom, amountsFrom, marks}
+use Rattle.row.specs.declared.Row.{Row}
 use Rattle.row.proofs.Walk.{after-start, size, more, more-fit, last, within, some}
 use Rattle.row.proofs.read_typed.Statement.{statement}
 use Rattle.row.proofs.read_typed.Tie as tie
@@ -72,22 +73,35 @@ module _ (s : List ℕ) (at : ℕ) (h : at ≤ length s) (e : ℕ) (q : e ≡ fi
   rest : i + 1 + length (left (i + 1) count s (e + 1)) ≡ count
   rest = let z = ap length (parts .0) in omega (arith, z)
 
-  module _ (joins : Supplement → Bool) (c : Sofar) (rs : List Rule) (vs : List Value) (t : Field)
+  module _ (joins : Supplement → Bool) (c : Sofar) (rs : List Rule) (t : Field)
       (g : t ≡ readField joins c (getD rs i noRule) (take (e - at) (drop at s))) where
     read : t ≡ readField joins c (getD rs i noRule) (slice at e s)
     read = g ∙ rw (part s at e (after-start s at h e q))
 
     -- it is refused,
-    wrong-field : (t .number ≡ 0 → ⊥) → rowFrom joins c i at rs (left i count s at) vs ≡ refusedAt (i + 1) t
+    wrong-field : (t .number ≡ 0 → ⊥) → rowFrom joins c i at rs (left i count s at) ≡ refusedAt (i + 1) t
     unfolding rowFrom
     wrong-field z = rw (parts .0, ← read, ne-eqb (t .number) 0 z)
 
     -- or read.
     read-field : t .number ≡ 0 →
-        rowFrom joins c i at rs (left i count s at) vs
-        ≡ rowFrom joins c (i + 1) (e + 1) rs (left (i + 1) count s (e + 1)) (set vs i record { n = t .n; amount = t .amount; from = at; to = e })
+        rowFrom joins c i at rs (left i count s at) ≡ rowFrom joins c (i + 1) (e + 1) rs (left (i + 1) count s (e + 1))
     unfolding rowFrom
     read-field z = rw (parts .0, ← read, eq-eqb (t .number) 0 z, size s at h e q)
+
+    -- What it is read as is what a right field is.
+    is-right : t .number ≡ 0 → t ≡ right (getD rs i noRule) (slice at e s)
+    is-right z = read ∙ right-when joins c (getD rs i noRule) (slice at e s) (ap (λ (x : Field). x .number) (sym read) ∙ z)
+
+    number-noted : t .number ≡ 0 → (ns : List ℕ) →
+        numbersFrom i rs (left i count s at) ns ≡ numbersFrom (i + 1) rs (left (i + 1) count s (e + 1)) (set ns i (t .n))
+    unfolding numbersFrom
+    number-noted z ns = rw (parts .0, is-right z)
+
+    amount-noted : t .number ≡ 0 → (ms : List ℕ) →
+        amountsFrom i rs (left i count s at) ms ≡ amountsFrom (i + 1) rs (left (i + 1) count s (e + 1)) (set ms i (t .amount))
+    unfolding amountsFrom
+    amount-noted z ms = rw (parts .0, is-right z)
 
 -- where the next field was noted to end, it ends
 end-noted : (s : List ℕ) (at : ℕ) → at ≤ length s → (i count : ℕ) → i < count → i + length (left i count s at) ≡ count → (ends : List ℕ) →
@@ -95,29 +109,31 @@ end-noted : (s : List ℕ) (at : ℕ) → at ≤ length s → (i count : ℕ) �
 end-noted s at h i count b n ends t = noted s at h (fieldEnd s at) refl i count b n ends t .0
 
 abbrev Inv-loop : tie.InvT-loop
-Inv-loop c s at ends t values₀ from₀ i₀ values from i =
+Inv-loop c s at numbers₀ amounts₀ ends t from₀ i₀ numbers amounts from i =
     (i ≤ t .count)
     × (i < t .count → from ≤ length s)
     × (i + length (left i (t .count) s from) ≡ t .count)
-    × (rowFrom (mayJoin (c .month) (c .schedule)) c i from (t .each) (left i (t .count) s from) values
-    ≡ rowFrom (mayJoin (c .month) (c .schedule)) c 0 at (t .each) (fieldsAt s at) blanks)
+    × (rowFrom (mayJoin (c .month) (c .schedule)) c i from (t .each) (left i (t .count) s from)
+    ≡ rowFrom (mayJoin (c .month) (c .schedule)) c 0 at (t .each) (fieldsAt s at))
     × (marks ends i from (left i (t .count) s from) ≡ true)
+    × (numbersFrom i (t .each) (left i (t .count) s from) numbers ≡ numbersFrom 0 (t .each) (fieldsAt s at) numbers₀)
+    × (amountsFrom i (t .each) (left i (t .count) s from) amounts ≡ amountsFrom 0 (t .each) (fieldsAt s at) amounts₀)
 
 abbrev μ-loop : tie.MeasureT-loop
-μ-loop c s at ends t values₀ from₀ i₀ values from i = t .count - i
+μ-loop c s at numbers₀ amounts₀ ends t from₀ i₀ numbers amounts from i = t .count - i
 
 loop-holds : tie.Need-loop-holds Inv-loop μ-loop
 loop-holds c =
     let a = c .before .args in
     let p = c .before .pre in
-    let w : left 0 (a .t5 .count) (a .s .now) (a .at) ≡ fieldsAt (a .s .now) (a .at) = whole (a .s .now) (a .at) (p .0) (a .t5 .count) (p .2) in
-    (omega arith, λ k. p .0, rw (w, zero-add) (p .2), rw w, rw w (p .3))
+    let w : left 0 (a .t4 .count) (a .s .now) (a .at) ≡ fieldsAt (a .s .now) (a .at) = whole (a .s .now) (a .at) (p .0) (a .t4 .count) (p .2) in
+    (omega arith, λ k. p .0, rw (w, zero-add) (p .2), rw w, rw w (p .3), rw w, rw w)
 
 mul-to : tie.Need-mul-to Inv-loop μ-loop
 mul-to c = search needs
 
-array-read-to : tie.Need-array-read-to Inv-loop μ-loop
-array-read-to c = search needs
+element-copy-out-to : tie.Need-element-copy-out-to Inv-loop μ-loop
+element-copy-out-to c = search needs
 
 mul-read : tie.Need-mul-read Inv-loop μ-loop
 mul-read c = search needs
@@ -127,30 +143,30 @@ element-copy-out-read c = search needs
 
 sub-read : tie.Need-sub-read Inv-loop μ-loop
 sub-read c =
-    let f = c .before in
+    let f = c .before .before in
     let a = f .before .before .before .args in
     let l = f .before .loop in
     let b = f .loop-test .taken in
-    let q = end-noted (a .s .now) (l .from) (l .inv .1 b) (l .i) (a .t5 .count) b (l .inv .2) (a .t4) (l .inv .4) in
-    omega (arith, within (a .s .now) (l .from) (l .inv .1 b) (getD (a .t4) (l .i) 0) q)
+    let q = end-noted (a .s .now) (l .from) (l .inv .1 b) (l .i) (a .t4 .count) b (l .inv .2) (a .ends .now) (l .inv .4) in
+    omega (arith, within (a .s .now) (l .from) (l .inv .1 b) (getD (a .ends .now) (l .i) 0) q)
 
 part-read-start : tie.Need-part-read-start Inv-loop μ-loop
 part-read-start c =
-    let f = c .before in
+    let f = c .before .before in
     let a = f .before .before .before .args in
     let l = f .before .loop in
     let b = f .loop-test .taken in
-    let q = end-noted (a .s .now) (l .from) (l .inv .1 b) (l .i) (a .t5 .count) b (l .inv .2) (a .t4) (l .inv .4) in
-    omega (arith, within (a .s .now) (l .from) (l .inv .1 b) (getD (a .t4) (l .i) 0) q)
+    let q = end-noted (a .s .now) (l .from) (l .inv .1 b) (l .i) (a .t4 .count) b (l .inv .2) (a .ends .now) (l .inv .4) in
+    omega (arith, within (a .s .now) (l .from) (l .inv .1 b) (getD (a .ends .now) (l .i) 0) q)
 
 part-read-end : tie.Need-part-read-end Inv-loop μ-loop
 part-read-end c =
-    let f = c .before in
+    let f = c .before .before in
     let a = f .before .before .before .args in
     let l = f .before .loop in
     let b = f .loop-test .taken in
-    let q = end-noted (a .s .now) (l .from) (l .inv .1 b) (l .i) (a .t5 .count) b (l .inv .2) (a .t4) (l .inv .4) in
-    omega (arith, within (a .s .now) (l .from) (l .inv .1 b) (getD (a .t4) (l .i) 0) q)
+    let q = end-noted (a .s .now) (l .from) (l .inv .1 b) (l .i) (a .t4 .count) b (l .inv .2) (a .ends .now) (l .inv .4) in
+    omega (arith, within (a .s .now) (l .from) (l .inv .1 b) (getD (a .ends .now) (l .i) 0) q)
 
 read-requires : tie.Need-read-requires Inv-loop μ-loop
 read-requires c κs = search needs
@@ -163,30 +179,38 @@ refused-requires c κs = search needs
 
 returns : tie.Need-returns Inv-loop μ-loop
 returns c =
+    let f = c .before .before .before .before .before .before .before in
+    let a = f .before .before .before .args in
+    let l = f .before .loop in
+    let b = f .loop-test .taken in
+    let q = end-noted (a .s .now) (l .from) (l .inv .1 b) (l .i) (a .t4 .count) b (l .inv .2) (a .ends .now) (l .inv .4) in
+    let r = c .before .before .before .read in (
+      c .refused .ensures
+          ∙ sym (wrong-field (a .s .now) (l .from) (l .inv .1 b) (getD (a .ends .now) (l .i) 0) q (l .i) (a .t4 .count) b (l .inv .2) (mayJoin (a .c .month) (a .c .schedule)) (a .c) (a .t4 .each) (r .result) (r .ensures) (c .before .if1 .taken))
+          ∙ l .inv .3,
+      λ z. absurd (c .before .if1 .taken (ap (λ (x : Row). x .number) (sym (c .refused .ensures)) ∙ z)),
+    )
+
+mul-numbers : tie.Need-mul-numbers Inv-loop μ-loop
+mul-numbers c = search needs
+
+element-write-numbers : tie.Need-element-write-numbers Inv-loop μ-loop
+element-write-numbers c = search needs
+
+mul-amounts : tie.Need-mul-amounts Inv-loop μ-loop
+mul-amounts c = search needs
+
+element-write-amounts : tie.Need-element-write-amounts Inv-loop μ-loop
+element-write-amounts c = search needs
+
+add-from : tie.Need-add-from Inv-loop μ-loop
+add-from c =
     let f = c .before .before .before .before .before .before in
     let a = f .before .before .before .args in
     let l = f .before .loop in
     let b = f .loop-test .taken in
-    let q = end-noted (a .s .now) (l .from) (l .inv .1 b) (l .i) (a .t5 .count) b (l .inv .2) (a .t4) (l .inv .4) in
-    let r = c .before .before .before .read in
-    c .refused .ensures
-    ∙ sym (wrong-field (a .s .now) (l .from) (l .inv .1 b) (getD (a .t4) (l .i) 0) q (l .i) (a .t5 .count) b (l .inv .2) (mayJoin (a .c .month) (a .c .schedule)) (a .c) (a .t5 .each) (l .values) (r .result) (r .ensures) (c .before .if1 .taken))
-    ∙ l .inv .3
-
-mul-values : tie.Need-mul-values Inv-loop μ-loop
-mul-values c = search needs
-
-array-set-from-values : tie.Need-array-set-from-values Inv-loop μ-loop
-array-set-from-values c = search needs
-
-add-from : tie.Need-add-from Inv-loop μ-loop
-add-from c =
-    let f = c .before .before .before .before .before in
-    let a = f .before .before .before .args in
-    let l = f .before .loop in
-    let b = f .loop-test .taken in
-    let q = end-noted (a .s .now) (l .from) (l .inv .1 b) (l .i) (a .t5 .count) b (l .inv .2) (a .t4) (l .inv .4) in
-    omega (arith, within (a .s .now) (l .from) (l .inv .1 b) (getD (a .t4) (l .i) 0) q)
+    let q = end-noted (a .s .now) (l .from) (l .inv .1 b) (l .i) (a .t4 .count) b (l .inv .2) (a .ends .now) (l .inv .4) in
+    omega (arith, within (a .s .now) (l .from) (l .inv .1 b) (getD (a .ends .now) (l .i) 0) q)
 
 add-i : tie.Need-add-i Inv-loop μ-loop
 add-i c = search needs
@@ -196,27 +220,32 @@ loop-less c = search needs
 
 loop-again : tie.Need-loop-again Inv-loop μ-loop
 loop-again c =
-    let f = c .before .before .before .before .before in
+    let f = c .before .before .before .before .before .before in
     let a = f .before .before .before .args in
     let l = f .before .loop in
     let b = f .loop-test .taken in
-    let q = end-noted (a .s .now) (l .from) (l .inv .1 b) (l .i) (a .t5 .count) b (l .inv .2) (a .t4) (l .inv .4) in
-    let e : ℕ = getD (a .t4) (l .i) 0 in
+    let q = end-noted (a .s .now) (l .from) (l .inv .1 b) (l .i) (a .t4 .count) b (l .inv .2) (a .ends .now) (l .inv .4) in
+    let e : ℕ = getD (a .ends .now) (l .i) 0 in
     let r = c .before .before .read in (
       omega arith,
-      parts (a .s .now) (l .from) (l .inv .1 b) e q (l .i) (a .t5 .count) b (l .inv .2) .1,
-      rest (a .s .now) (l .from) (l .inv .1 b) e q (l .i) (a .t5 .count) b (l .inv .2),
-      sym (read-field (a .s .now) (l .from) (l .inv .1 b) e q (l .i) (a .t5 .count) b (l .inv .2) (mayJoin (a .c .month) (a .c .schedule)) (a .c) (a .t5 .each) (l .values) (r .result) (r .ensures) (c .if1 .left)) ∙ l .inv .3,
-      noted (a .s .now) (l .from) (l .inv .1 b) e q (l .i) (a .t5 .count) b (l .inv .2) (a .t4) (l .inv .4) .1,
+      parts (a .s .now) (l .from) (l .inv .1 b) e q (l .i) (a .t4 .count) b (l .inv .2) .1,
+      rest (a .s .now) (l .from) (l .inv .1 b) e q (l .i) (a .t4 .count) b (l .inv .2),
+      sym (read-field (a .s .now) (l .from) (l .inv .1 b) e q (l .i) (a .t4 .count) b (l .inv .2) (mayJoin (a .c .month) (a .c .schedule)) (a .c) (a .t4 .each) (r .result) (r .ensures) (c .if1 .left)) ∙ l .inv .3,
+      noted (a .s .now) (l .from) (l .inv .1 b) e q (l .i) (a .t4 .count) b (l .inv .2) (a .ends .now) (l .inv .4) .1,
+      sym (number-noted (a .s .now) (l .from) (l .inv .1 b) e q (l .i) (a .t4 .count) b (l .inv .2) (mayJoin (a .c .month) (a .c .schedule)) (a .c) (a .t4 .each) (r .result) (r .ensures) (c .if1 .left) _) ∙ l .inv .5,
+      sym (amount-noted (a .s .now) (l .from) (l .inv .1 b) e q (l .i) (a .t4 .count) b (l .inv .2) (mayJoin (a .c .month) (a .c .schedule)) (a .c) (a .t4 .each) (r .result) (r .ensures) (c .if1 .left) _) ∙ l .inv .6,
     )
 
+fine-requires : tie.Need-fine-requires Inv-loop μ-loop
+fine-requires c κs = search needs
+
 returns-2 : tie.Need-returns-2 Inv-loop μ-loop
-unfolding rowFrom
+unfolding rowFrom numbersFrom amountsFrom
 returns-2 c =
-    let a = c .before .before .before .args in
-    let l = c .before .loop in
-    let w : left (l .i) (a .t5 .count) (a .s .now) (l .from) ≡ [] = left-none (l .i) (a .t5 .count) (a .s .now) (l .from) (c .loop-test .left) in
-    rw w at (l .inv .3)
+    let a = c .before .before .before .before .args in
+    let l = c .before .before .loop in
+    let w : left (l .i) (a .t4 .count) (a .s .now) (l .from) ≡ [] = left-none (l .i) (a .t4 .count) (a .s .now) (l .from) (c .before .loop-test .left) in
+    (c .fine .ensures ∙ rw w at (l .inv .3), λ z. (rw w at (l .inv .5), rw w at (l .inv .6)))
 
 pub read-typed-spec : {M : Type 1} → statement M
 read-typed-spec =
@@ -226,7 +255,7 @@ read-typed-spec =
     μ-loop
     loop-holds
     mul-to
-    array-read-to
+    element-copy-out-to
     mul-read
     element-copy-out-read
     sub-read
@@ -236,10 +265,13 @@ read-typed-spec =
     add-refused
     refused-requires
     returns
-    mul-values
-    array-set-from-values
+    mul-numbers
+    element-write-numbers
+    mul-amounts
+    element-write-amounts
     add-from
     add-i
     loop-less
     loop-again
+    fine-requires
     returns-2)

@@ -1,20 +1,18 @@
 -- The fields of a line walked along the file.
 -- Assumes nothing.
 use Prim.Native.Nat.{ℕ, _+_}
+use mathlib.Core.Path.{_≡_}
 use mathlib.Core.Bool.{Bool, true, cond, _&&_}
 use mathlib.Core.List.{List, [], _∷_}
 use lib.Dec.{eqb, ltb}
 use lib.ListN.{length, getD, set}
 use Rattle.supplement.specs.declared.Supplement.{Supplement}
-use Rattle.field.specs.Field.{free, required, forbidden, readField}
+use Rattle.field.specs.Field.{free, required, forbidden, right, readField}
 use Rattle.field.specs.declared.Rule.{Rule}
 use Rattle.field.specs.declared.Sofar.{Sofar}
-use Rattle.field.specs.declared.Field.{Field}
-use Rattle.row.specs.Table.{noRule, keptRule, rulesFrom}
-use Rattle.row.specs.Row.{blanks, refusedAt}
-use Rattle.row.specs.declared.Value.{Value}
+use Rattle.row.specs.Table.{noRule, keptRule, rules, rulesFrom}
+use Rattle.row.specs.Row.{refusedAt, fine, numbers, amounts, ends, inNine}
 use Rattle.row.specs.declared.Row.{Row}
-use Rattle.row.specs.declared.Cut.{Cut}
 
 -- Required with a kind, else forbidden.
 unfoldable pub needWith : ℕ → ℕ → ℕ
@@ -28,21 +26,35 @@ drugNeed kind = cond (eqb kind 0x31) forbidden (cond (eqb kind 0x37) free requir
 unfoldable pub nameNeedOf : ℕ → Bool → ℕ
 nameNeedOf kind unlisted = cond unlisted required (cond (eqb kind 0x32) free required)
 
--- What was read of a field at an offset.
-abbrev pub valueOf : ℕ → List ℕ → Field → Value
-valueOf at f t = record { n = t .n; amount = t .amount; from = at; to = at + length f }
-
 -- The fields of a typed record from the one with i before it on, which begins at `from`.
-unfoldable pub rowFrom : (Supplement → Bool) → Sofar → ℕ → ℕ → List Rule → List (List ℕ) → List Value → Row
-rowFrom joins c i from rs [] vs = record { number = 0; field = 0; code = 0; place = 0; values = vs; after = from }
-rowFrom joins c i from rs (f ∷ fs) vs =
-    cond (eqb (readField joins c (getD rs i noRule) f .number) 0)
-    (rowFrom joins c (i + 1) (from + length f + 1) rs fs (set vs i (valueOf from f (readField joins c (getD rs i noRule) f))))
+unfoldable pub rowFrom : (Supplement → Bool) → Sofar → ℕ → ℕ → List Rule → List (List ℕ) → Row
+rowFrom joins c i from rs [] = fine from
+rowFrom joins c i from rs (f ∷ fs) =
+    cond (eqb (readField joins c (getD rs i noRule) f .number) 0) (rowFrom joins c (i + 1) (from + length f + 1) rs fs)
     (refusedAt (i + 1) (readField joins c (getD rs i noRule) f))
+
+-- Their numbers, put into cells from the one with i before it on.
+unfoldable pub numbersFrom : ℕ → List Rule → List (List ℕ) → List ℕ → List ℕ
+numbersFrom i rs [] ns = ns
+numbersFrom i rs (f ∷ fs) ns = numbersFrom (i + 1) rs fs (set ns i (right (getD rs i noRule) f .n))
+
+-- Their amounts.
+unfoldable pub amountsFrom : ℕ → List Rule → List (List ℕ) → List ℕ → List ℕ
+amountsFrom i rs [] ms = ms
+amountsFrom i rs (f ∷ fs) ms = amountsFrom (i + 1) rs fs (set ms i (right (getD rs i noRule) f .amount))
+
+-- Two arrays take what the fields are read as, over what they held before, where none is wrong.
+abbrev pub Walked : Row → List Rule → List (List ℕ) → List ℕ → List ℕ → List ℕ → List ℕ → Type 0
+Walked w rs fs ns₀ ms₀ ns ms = w .number ≡ 0 → (ns ≡ numbersFrom 0 rs fs ns₀) × (ms ≡ amountsFrom 0 rs fs ms₀)
+
+-- The three arrays of a typed record, where none is wrong.
+abbrev pub Filled : ℕ → ℕ → List (List ℕ) → Row → List ℕ → List ℕ → List ℕ → Type 0
+Filled n at fs w ns ms es =
+    w .number ≡ 0 → (ns ≡ inNine (numbers (rules n fs) fs)) × (ms ≡ inNine (amounts (rules n fs) fs)) × (es ≡ inNine (ends at fs))
 
 -- The fields of a kept record from the ith on.
 unfoldable pub keptFrom : (Supplement → Bool) → Sofar → ℕ → ℕ → List (List ℕ) → Row
-keptFrom joins c i from [] = record { number = 0; field = 0; code = 0; place = 0; values = blanks; after = from }
+keptFrom joins c i from [] = fine from
 keptFrom joins c i from (f ∷ fs) =
     cond (eqb (readField joins c keptRule f .number) 0) (keptFrom joins c (i + 1) (from + length f + 1) fs)
     (refusedAt i (readField joins c keptRule f))
@@ -51,13 +63,17 @@ keptFrom joins c i from (f ∷ fs) =
 unfoldable pub widthOf : ℕ → ℕ
 widthOf n = length (rulesFrom n [] [])
 
--- Where the fields of a line end, from the one with k before it on, which begins at `at`: how many they are, and the first nine ends.
-unfoldable pub cutFrom : ℕ → ℕ → List (List ℕ) → List ℕ → Cut
-cutFrom k at [] ends = record { count = k; ends = ends }
-cutFrom k at (f ∷ fs) ends =
-    cond (ltb k 9) (cutFrom (k + 1) (at + length f + 1) fs (set ends k (at + length f))) (record { count = 10; ends = ends })
+-- How many fields a line has, from the one with k before it on: 10 for any number above nine.
+unfoldable pub cutCount : ℕ → List (List ℕ) → ℕ
+cutCount k [] = k
+cutCount k (f ∷ fs) = cond (ltb k 9) (cutCount (k + 1) fs) 10
+
+-- Where they end, put into nine cells from the one with k before it on; the first of them begins at `at`.
+unfoldable pub cutEnds : ℕ → ℕ → List (List ℕ) → List ℕ → List ℕ
+cutEnds k at [] es = es
+cutEnds k at (f ∷ fs) es = cond (ltb k 9) (cutEnds (k + 1) (at + length f + 1) fs (set es k (at + length f))) es
 
 -- The fields, of which the first begins at `at`, end at these offsets, from the ith on.
 unfoldable pub marks : List ℕ → ℕ → ℕ → List (List ℕ) → Bool
-marks ends i at [] = true
-marks ends i at (f ∷ fs) = eqb (getD ends i 0) (at + length f) && marks ends (i + 1) (at + length f + 1) fs
+marks es i at [] = true
+marks es i at (f ∷ fs) = eqb (getD es i 0) (at + length f) && marks es (i + 1) (at + length f + 1) fs
