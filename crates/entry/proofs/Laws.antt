@@ -7,7 +7,7 @@ use mathlib.Core.List.{List, [], _∷_, _++_, map}
 use native.Mathlib.Omega.{arith}
 use borrow.Author.Tests.{eqb-true, le-leb}
 use lib.Dec.{eqb}
-use lib.ListN.{length, take, replicate, length-map}
+use lib.ListN.{length, getD, take, replicate, length-map}
 use lib.Seq.{take-append-seam}
 use Rattle.cells.specs.Text.{bytes}
 use Rattle.cells.specs.Code.Same.{eqs}
@@ -119,6 +119,15 @@ line-of lent (KeptRecord x) =
     (λ i. n ++ 0x2c ∷ (text-bytes lent (x .fields) ∙ sym (join-split s)) i)
     ∙ sym (join-more n (split s) (some-field s))
     ∙ ap (λ (fs : List (List ℕ)). join (n ∷ fs)) (sym (texts (split s)))
+
+-- the first is the record's number,
+pub first-number : (r : Record) → getD (partsOf r .numbers) 0 0 ≡ numberFor r
+first-number (Issue x) = refl
+first-number (Rp x) = refl
+first-number (Usage x) = refl
+first-number (Supply x) = refl
+first-number (Drug x) = refl
+first-number (KeptRecord x) = refl
 
 -- and there are one to ten of them.
 pub few : (r : Record) → (1 ≤ length (partList r)) × (length (partList r) ≤ 10)
@@ -270,9 +279,9 @@ module _ (joins : Supplement → Bool) (c : Sofar) (lent : List ℕ) where
   wrong-is (KeptRecord x) = wrong-kept x
 
   -- So a record's parts, with what is wrong with them, are its entry.
-  pub as-entry : (r : Record) (n w : ℕ) (p : Entry) → n ≡ numberFor r → p ≡ partsOf r → w ≡ wrongIn joins c lent n (laidIn p) →
+  pub as-entry : (r : Record) (w : ℕ) (p : Entry) → p ≡ partsOf r → w ≡ wrongIn joins c lent (getD (p .numbers) 0 0) (laidIn p) →
       record { wrong = w; count = p .count; kinds = p .kinds; numbers = p .numbers; from = p .from; to = p .to; own = p .own } ≡ entryOf joins c lent r
   unfolding entryOf
-  as-entry r n w p h q e =
-      let v : w ≡ numberIn (readParts joins c 0 (parts (lentHeld lent r))) = e ∙ (λ i. wrongIn joins c lent (h i) (laidIn (q i))) ∙ wrong-is r in
+  as-entry r w p q e =
+      let v : w ≡ numberIn (readParts joins c 0 (parts (lentHeld lent r))) = e ∙ (λ i. wrongIn joins c lent (getD (q i .numbers) 0 0) (laidIn (q i))) ∙ ap (λ (n : ℕ). wrongIn joins c lent n (laidIn (partsOf r))) (first-number r) ∙ wrong-is r in
       λ i. record { wrong = v i; count = q i .count; kinds = q i .kinds; numbers = q i .numbers; from = q i .from; to = q i .to; own = q i .own }

@@ -23,7 +23,7 @@ ghost use Rattle.schedule.specs.Code.Kept.{mayJoin};
 ghost use Rattle.record.specs.declared.Record.the-variants.{Issue, Rp, Usage, Supplement as Supply, Drug, Kept as KeptRecord};
 ghost use Rattle.held.specs.Held.{usageValue, supplementValue, print};
 ghost use Rattle.entry.specs.Entry.{kindOf, optionalPart, textOr, entryOf};
-ghost use Rattle.entry.specs.Code.Judge.{partsOf, keptNumber, numberFor, laid, kindMark, tableBy, numberWrong, partWrong, wrongTyped, commaFrom, textsWrong, wrongIn};
+ghost use Rattle.entry.specs.Code.Judge.{partsOf, keptNumber, laid, kindMark, tableBy, numberWrong, partWrong, wrongTyped, commaFrom, textsWrong, wrongIn};
 
 // What a part of the line is: a number's digits, a text in the bytes that are lent beside the record, or the characters of the record's own.
 pub const NUMBER: u8 = 0;
@@ -240,20 +240,6 @@ fn parts(r: Record) -> Entry
     }
 }
 
-// A record's number, by which it is judged.
-fn number_of(r: Record) -> u16
-    ensures { λ n. ⌜ n ≡ numberFor r ⌝ }
-{
-    match r {
-        Record::Issue(_) => 51,
-        Record::Rp(_) => 101,
-        Record::Usage(_) => 111,
-        Record::Supplement(_) => 181,
-        Record::Drug(_) => 201,
-        Record::Kept(x) => kept_number(x.number),
-    }
-}
-
 // A text in the lent bytes; a place outside them is `none`.
 pub fn text<'a>(lent: &'a [u8], none: &'a [u8], from: usize, to: usize) -> &'a [u8]
     ensures { λ r. ⌜ now r ≡ textOr (now (lent .entry)) (now (none .entry)) from to ⌝ }
@@ -457,7 +443,7 @@ pub fn of(c: Sofar, r: Record, lent: &[u8]) -> Entry
     let n = e.own.length;
     let w = wrong(
         c,
-        number_of(r),
+        numbers[0],
         lent,
         &kinds,
         &numbers,

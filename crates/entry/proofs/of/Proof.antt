@@ -1,5 +1,6 @@
 -- `Laws` says that the parts are judged as the reader judges the fields.
 use mathlib.Core.Path.{_∙_}
+use lib.ListN.{getD}
 use Rattle.schedule.specs.Code.Kept.{mayJoin}
 use Rattle.entry.specs.Code.Judge.{laid, wrongIn}
 use Rattle.entry.proofs.Laws.{as-entry}
@@ -10,11 +11,11 @@ use Rattle.entry.proofs.of.Tie as tie
 parts-requires : tie.Need-parts-requires
 parts-requires c κs = search needs
 
-number-of-requires : tie.Need-number-of-requires
-number-of-requires c κs = search needs
+array-read-wrong : tie.Need-array-read-wrong
+array-read-wrong c = search needs
 
 slice-aggregate-first : tie.Need-slice-aggregate-first
-slice-aggregate-first c = let k = c .before .before .before .before .before .before .before .before .before .before .before .parts .ok in search needs
+slice-aggregate-first c = let k = c .before .before .before .before .before .before .before .before .before .before .parts .ok in search needs
 
 first-requires : tie.Need-first-requires
 first-requires c κs = search needs
@@ -24,18 +25,17 @@ wrong-requires c κs = search needs
 
 returns : tie.Need-returns
 returns c =
-    let a = c .before .before .before .before .before .before .before .before .before .before .before .before .before .before .before .args in
-    let p = c .before .before .before .before .before .before .before .before .before .before .before .before .before .parts .result in
-    as-entry (mayJoin (a .c .month) (a .c .schedule)) (a .c) (a .lent .now) (a .r) (c .before .before .before .before .before .before .before .number-of .result) (c .wrong .result) p (c .before .before .before .before .before .before .before .number-of .ensures)
-    (c .before .before .before .before .before .before .before .before .before .before .before .before .before .parts .ensures)
-    (c .wrong .ensures ∙ (λ i. wrongIn (mayJoin (a .c .month) (a .c .schedule)) (a .c) (a .lent .now) (c .before .before .before .before .before .before .before .number-of .result) (laid (p .kinds) (p .numbers) (p .from) (p .to) (c .before .first .ensures i))))
+    let a = c .before .before .before .before .before .before .before .before .before .before .before .before .before .before .args in
+    let p = c .before .before .before .before .before .before .before .before .before .before .before .before .parts .result in
+    as-entry (mayJoin (a .c .month) (a .c .schedule)) (a .c) (a .lent .now) (a .r) (c .wrong .result) p (c .before .before .before .before .before .before .before .before .before .before .before .before .parts .ensures)
+    (c .wrong .ensures ∙ (λ i. wrongIn (mayJoin (a .c .month) (a .c .schedule)) (a .c) (a .lent .now) (getD (p .numbers) 0 0) (laid (p .kinds) (p .numbers) (p .from) (p .to) (c .before .first .ensures i))))
 
 pub of-spec : {M : Type 1} → statement M
 of-spec =
     tie.close
     (tie.spec
     parts-requires
-    number-of-requires
+    array-read-wrong
     slice-aggregate-first
     first-requires
     wrong-requires
