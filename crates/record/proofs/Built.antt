@@ -207,11 +207,8 @@ module _ (joins : Supplement → Bool) (c : Sofar) (s : List ℕ) (from : ℕ) (
         unit = p9 j;
       })
 
-  abbrev row : ℕ → Row
-  row n = fine (from + length (join fs) + 1)
-
   abbrev Goal : ℕ → Type 0
-  Goal n = rowRecord n s from (row n) ≡ recordOf n from fs
+  Goal n = rowRecord n s from (fine (from + length (join fs) + 1)) ≡ recordOf n from fs
 
   -- one of the table's records
   listed : (n m : ℕ) → readRow joins c n from fs .number ≡ 0 → eqb n m ≡ true → typed m ≡ true → Is m → Goal n

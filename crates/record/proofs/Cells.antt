@@ -1,7 +1,7 @@
 -- What is noted of a row that is right, cell by cell: what each field is read as, and its place.
 -- Assumes nothing.
 use Prim.Native.Nat.{ℕ, zero, suc, _+_, _-_, _≤_, _<_}
-use mathlib.Core.Path.{_≡_, refl, sym, ap, _∙_}
+use mathlib.Core.Path.{_≡_, refl, ap, _∙_}
 use mathlib.Core.List.{List, [], _∷_, _++_}
 use native.Mathlib.Omega.{arith}
 use lib.ListN.{length, getD, replicate, List·getD-append, length-append}
@@ -10,7 +10,7 @@ use Rattle.line.specs.Fields.{join}
 use Rattle.field.specs.Field.{right}
 use Rattle.field.specs.declared.Rule.{Rule}
 use Rattle.row.specs.Table.{noRule}
-use Rattle.row.specs.Row.{numbers, amounts, ends, zeros, inNine, noted, endsOf}
+use Rattle.row.specs.Row.{numbers, amounts, ends, inNine, noted, endsOf}
 use Rattle.row.specs.declared.Row.{Row}
 use Rattle.record.specs.Record.{offset}
 use Rattle.record.specs.declared.Place.{Place}

@@ -1,7 +1,7 @@
 -- By the number of fields: as many as the table has, or 25.
 use Prim.Native.Nat.{ℕ, _≤_}
 use mathlib.Core.Path.{_≡_, sym, ap, ap₂, _∙_}
-use mathlib.Core.Bool.{Bool, true}
+use mathlib.Core.Bool.{Bool}
 use mathlib.Core.List.{List}
 use native.Mathlib.Omega.{arith}
 use borrow.Author.Needs.{needs}
@@ -11,7 +11,7 @@ use Rattle.schedule.specs.Code.Kept.{mayJoin}
 use Rattle.field.specs.declared.Rule.{Rule}
 use Rattle.row.specs.Table.{rules, rulesOf}
 use Rattle.row.specs.Row.{fieldsAt, numbers, amounts, inNine}
-use Rattle.row.specs.Code.Walk.{widthOf, marks, rowFrom, numbersFrom, amountsFrom, cutEnds}
+use Rattle.row.specs.Code.Walk.{widthOf, rowFrom, numbersFrom, amountsFrom, cutEnds}
 use Rattle.row.specs.declared.Row.{Row}
 use Rattle.row.specs.declared.Rules.{Rules}
 use Rattle.row.proofs.Bridge.{table-width, typed-rules, typed-row, miscounted-row}
