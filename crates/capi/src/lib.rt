@@ -1,6 +1,6 @@
 // The public operations for C and Rust, on numbers and bytes. include/yawsimbel.h has the layout of each array. A refusal leaves every lent
-// array as it was, but for the one that says where and why.
-use days::DaySet;
+// array as it was, but for the one that says where and why. The calls on codes and dates are those of `codes`, passed on: a static library has
+// one crate's calls.
 use reader::Handed;
 ghost use Rattle.cells.specs.Writing.{Writes};
 ghost use Rattle.usage.specs.Usage.{readUsage};
@@ -12,10 +12,11 @@ ghost use Rattle.reader.specs.File.{checkFile};
 ghost use Rattle.reader.specs.Reader.{openFile, nextRecord};
 ghost use Rattle.writer.specs.Writer.{openBuffer, putRecord, closeBuffer};
 ghost use Rattle.plain.specs.Codes.{usageNumbers, instructionOf, supplementNumbers, supplementOf};
-ghost use Rattle.plain.specs.Records.{recordOf};
-ghost use Rattle.plain.specs.States.{readerOf, writerOf};
-ghost use Rattle.told.specs.Answers.{makeStyled};
-ghost use Rattle.capi.specs.Calls.{Reads, ReadsRun, TellsSet, Checks, Opens, Steps, OpensBuffer, Puts, Makes};
+ghost use Rattle.plain_record.specs.Records.{recordOf};
+ghost use Rattle.told.specs.States.{readerOf, writerOf};
+ghost use Rattle.codes.specs.Answers.{makeStyled};
+ghost use Rattle.codes.specs.Calls.{Reads, ReadsRun, TellsSet, Makes};
+ghost use Rattle.capi.specs.Calls.{Checks, Opens, Steps, OpensBuffer, Puts};
 
 // ---- usage codes
 
@@ -24,17 +25,7 @@ ghost use Rattle.capi.specs.Calls.{Reads, ReadsRun, TellsSet, Checks, Op
 pub extern "C" fn yws_usage_read(code: &[u8], numbers: &mut [u64; 25], place: &mut u64) -> u8
     ensures { λ r. ⌜ Reads Instruction usageNumbers (readUsage (now (code .entry))) (now (numbers .entry)) r (now (place .exit)) (now (numbers .exit)) ⌝ }
 {
-    match usage::read(code) {
-        usage::Reading::Taken(i) => {
-            *place = 0;
-            *numbers = plain::usage_numbers(i);
-            0
-        }
-        usage::Reading::Refused(f) => {
-            *place = f.place as u64;
-            f.number
-        }
-    }
+    codes::usage_read(code, numbers, place)
 }
 
 // Writes a usage code.
@@ -42,13 +33,7 @@ pub extern "C" fn yws_usage_read(code: &[u8], numbers: &mut [u64; 25], place: &m
 pub extern "C" fn yws_usage_write(numbers: &[u64; 25], code: &mut [u8; 16]) -> u8
     ensures { λ r. ⌜ Writes Instruction readUsage (now (code .entry)) (instructionOf (now (numbers .entry))) r (now (code .exit)) ⌝ }
 {
-    let i = plain::instruction(numbers);
-    let u = usage_writer::write(i);
-    if u.number == 0 {
-        let written = u.code;
-        *code = written;
-    }
-    u.number
+    codes::usage_write(numbers, code)
 }
 
 // ---- supplementary codes
@@ -58,17 +43,7 @@ pub extern "C" fn yws_usage_write(numbers: &[u64; 25], code: &mut [u8; 16]) -> u
 pub extern "C" fn yws_supplement_read(code: &[u8], numbers: &mut [u64; 22], place: &mut u64) -> u8
     ensures { λ r. ⌜ Reads Supplement supplementNumbers (readSupplement (now (code .entry))) (now (numbers .entry)) r (now (place .exit)) (now (numbers .exit)) ⌝ }
 {
-    match supplement::read(code) {
-        supplement::Reading::Taken(x) => {
-            *place = 0;
-            *numbers = plain::supplement_numbers(x);
-            0
-        }
-        supplement::Reading::Refused(f) => {
-            *place = f.place as u64;
-            f.number
-        }
-    }
+    codes::supplement_read(code, numbers, place)
 }
 
 // Writes a supplementary code.
@@ -76,13 +51,7 @@ pub extern "C" fn yws_supplement_read(code: &[u8], numbers: &mut [u64; 22], plac
 pub extern "C" fn yws_supplement_write(numbers: &[u64; 22], code: &mut [u8; 8]) -> u8
     ensures { λ r. ⌜ Writes Supplement readSupplement (now (code .entry)) (supplementOf (now (numbers .entry))) r (now (code .exit)) ⌝ }
 {
-    let x = plain::supplement(numbers);
-    let s = supplement_writer::write(x);
-    if s.number == 0 {
-        let written = s.code;
-        *code = written;
-    }
-    s.number
+    codes::supplement_write(numbers, code)
 }
 
 // ---- runs and sets of days
@@ -97,13 +66,7 @@ pub extern "C" fn yws_run_read(
 ) -> u8
     ensures { λ r. ⌜ ReadsRun (readRun issue (now (codes .entry))) (now (days .entry)) r (now (refusal .exit)) (now (days .exit)) ⌝ }
 {
-    let run = days::read_run(issue, codes);
-    *refusal = [run.place as u64, run.code as u64];
-    if run.number == 0 {
-        let cells = run.days.cells;
-        *days = cells;
-    }
-    run.number
+    codes::run_read(issue, codes, days, refusal)
 }
 
 // Writes the run for a set of days.
@@ -111,10 +74,7 @@ pub extern "C" fn yws_run_read(
 pub extern "C" fn yws_set_write(issue: u8, days: &[u32; 13], out: &mut [u8], count: &mut u64) -> u8
     ensures { λ r. ⌜ TellsSet issue (now (days .entry)) (now (out .entry)) (now (out .exit)) r (now (count .entry)) (now (count .exit)) ⌝ }
 {
-    let cells = *days;
-    let w = days::write_run(issue, DaySet { cells: cells }, out);
-    *count = told::count_after(w, *count);
-    told::wrote_number(w)
+    codes::set_write(issue, days, out, count)
 }
 
 // ---- sheets, read
@@ -136,7 +96,7 @@ pub extern "C" fn yws_sheet_open(file: &[u8], state: &mut [u64; 11]) -> u8
     ensures { λ r. ⌜ Opens (openFile (now (file .entry))) r (now (state .exit)) ⌝ }
 {
     let t = reader::open(file);
-    *state = plain::reader_numbers(t);
+    *state = told::reader_numbers(t);
     t.number
 }
 
@@ -150,13 +110,13 @@ pub extern "C" fn yws_sheet_next(
 ) -> u8
     ensures { λ r. ⌜ Steps (nextRecord (now (file .entry)) (readerOf (now (state .entry)))) (now (state .entry)) (now (numbers .entry)) r (now (refusal .exit)) (now (state .exit)) (now (numbers .exit)) ⌝ }
 {
-    let step = reader::next(file, plain::reader_state(state));
+    let step = reader::next(file, told::reader_state(state));
     let handed = step.next;
     let t = step.state;
     match handed {
         Handed::Record(r) => {
-            *state = plain::reader_numbers(t);
-            plain::record_numbers(r, numbers);
+            *state = told::reader_numbers(t);
+            plain_record::record_numbers(r, numbers);
             *refusal = [0; 4];
             0
         }
@@ -180,7 +140,7 @@ pub extern "C" fn yws_writer_open(out: &mut [u8], state: &mut [u64; 11]) -> u8
 {
     let opened = writer::open(out);
     let t = opened.state;
-    *state = plain::writer_numbers(t);
+    *state = told::writer_numbers(t);
     opened.number
 }
 
@@ -197,14 +157,14 @@ pub extern "C" fn yws_writer_put(
 {
     let put = writer::put(
         out,
-        plain::writer_state(state),
-        plain::record(numbers),
+        told::writer_state(state),
+        plain_record::record(numbers),
         lent,
     );
     let t = put.state;
     *own = put.own as u64;
     if put.number == 0 {
-        *state = plain::writer_numbers(t);
+        *state = told::writer_numbers(t);
     }
     put.number
 }
@@ -214,11 +174,11 @@ pub extern "C" fn yws_writer_put(
 pub extern "C" fn yws_writer_close(out: &mut [u8], state: &mut [u64; 11], own: &mut u64) -> u8
     ensures { λ r. ⌜ Puts (closeBuffer (now (out .entry)) (writerOf (now (state .entry)))) (now (state .entry)) r (now (own .exit)) (now (out .exit)) (now (state .exit)) ⌝ }
 {
-    let closed = writer::close(out, plain::writer_state(state));
+    let closed = writer::close(out, told::writer_state(state));
     let t = closed.state;
     *own = closed.own as u64;
     if closed.number == 0 {
-        *state = plain::writer_numbers(t);
+        *state = told::writer_numbers(t);
     }
     closed.number
 }
@@ -237,8 +197,5 @@ pub extern "C" fn yws_date_make(
 ) -> u8
     ensures { λ r. ⌜ Makes (makeStyled year month day style) (now (numbers .entry)) (now (text .entry)) r (now (numbers .exit)) (now (text .exit)) ⌝ }
 {
-    let m = told::made(year, month, day, style);
-    *numbers = told::made_numbers(m, *numbers);
-    *text = told::made_text(m, *text);
-    told::made_number(m)
+    codes::date_make(year, month, day, style, numbers, text)
 }

@@ -1,36 +1,106 @@
-// Answers as plain numbers: what a call returns, and what it leaves in the arrays that it is lent. A refusal leaves them as they were.
-use date::Date;
-use date::Made;
-use days::Wrote;
+// States and answers as plain numbers: what is left in the arrays that a call on a sheet is lent, and what it returns.
+use counter::DrugSerial;
+use counter::RpNumber;
+use counter::SupplementSerial;
+use field::Sofar;
 use reader::Checked;
 use record::Refusal;
+use schedule::Schedule;
 ghost use mathlib.Core.Path.{_≡_};
-ghost use Rattle.days.specs.Set.{said};
-ghost use Rattle.told.specs.Answers.{number, orCount, refusalNumbers, checkedNumber, checkedRecords, checkedRefusal, makeStyled, madeNumber, madeNumbers, madeText};
+ghost use Rattle.told.specs.States.{scheduleOf, sofarOf, readerNumbers, readerOf, writerNumbers, writerOf};
+ghost use Rattle.told.specs.Answers.{refusalNumbers, checkedNumber, checkedRecords, checkedRefusal};
 
-// ---- runs and sets of days
+// ---- states
 
-// The number of an answer: 0, or the refusal's.
-pub fn wrote_number(w: Wrote) -> u8
-    ensures { λ r. ⌜ r ≡ number (said w) ⌝ }
+fn schedule_of(n: &[u64]) -> Schedule
+    ensures { λ r. ⌜ r ≡ scheduleOf (now (n .entry)) ⌝ }
 {
-    match w {
-        Wrote::Codes(_) => 0,
-        Wrote::Refused(f) => f.number,
+    Schedule {
+        letter: plain::byte_at(n, 7),
+        month: plain::byte_at(n, 8),
+        last: plain::byte_at(n, 9),
+        full: plain::flag_at(n, 10),
     }
 }
 
-// How many codes; after a refusal what was there, here and below.
-pub fn count_after(w: Wrote, before: u64) -> u64
-    ensures { λ r. ⌜ r ≡ orCount (said w) before ⌝ }
+fn sofar(n: &[u64]) -> Sofar
+    ensures { λ r. ⌜ r ≡ sofarOf (now (n .entry)) ⌝ }
 {
-    match w {
-        Wrote::Codes(n) => n as u64,
-        Wrote::Refused(_) => before,
+    Sofar {
+        last: plain::half_at(n, 2),
+        month: plain::byte_at(n, 3),
+        rp: RpNumber(plain::half_at(n, 4)),
+        drug: DrugSerial(plain::half_at(n, 5)),
+        supplement: SupplementSerial(plain::half_at(n, 6)),
+        schedule: schedule_of(n),
     }
 }
 
-// ---- sheets, read
+// A reader's state of eleven numbers.
+pub fn reader_state(n: &[u64]) -> reader::State
+    ensures { λ r. ⌜ r ≡ readerOf (now (n .entry)) ⌝ }
+{
+    reader::State {
+        number: plain::byte_at(n, 1),
+        at: plain::at(n, 0) as usize,
+        sofar: sofar(n),
+    }
+}
+
+// Its numbers, which are held as the state.
+pub fn reader_numbers(t: reader::State) -> [u64; 11]
+    ensures { λ r. ⌜ (r ≡ readerNumbers t) × (readerOf r ≡ t) ⌝ }
+{
+    let c = t.sofar;
+    let s = c.schedule;
+    [
+        t.at as u64,
+        t.number as u64,
+        c.last as u64,
+        c.month as u64,
+        c.rp.0 as u64,
+        c.drug.0 as u64,
+        c.supplement.0 as u64,
+        s.letter as u64,
+        s.month as u64,
+        s.last as u64,
+        s.full as u64,
+    ]
+}
+
+// A writer's state of eleven numbers.
+pub fn writer_state(n: &[u64]) -> writer::State
+    ensures { λ r. ⌜ r ≡ writerOf (now (n .entry)) ⌝ }
+{
+    writer::State {
+        at: plain::at(n, 0) as usize,
+        closed: plain::flag_at(n, 1),
+        sofar: sofar(n),
+    }
+}
+
+// Its numbers, which are held as the state.
+pub fn writer_numbers(t: writer::State) -> [u64; 11]
+    ensures { λ r. ⌜ (r ≡ writerNumbers t) × (writerOf r ≡ t) ⌝ }
+{
+    let c = t.sofar;
+    let s = c.schedule;
+    [
+        t.at as u64,
+        t.closed as u64,
+        c.last as u64,
+        c.month as u64,
+        c.rp.0 as u64,
+        c.drug.0 as u64,
+        c.supplement.0 as u64,
+        s.letter as u64,
+        s.month as u64,
+        s.last as u64,
+        s.full as u64,
+    ]
+}
+
+// ---- answers
 
 pub fn refusal_numbers(f: Refusal) -> [u64; 4]
     ensures { λ r. ⌜ r ≡ refusalNumbers f ⌝ }
@@ -62,50 +132,5 @@ pub fn checked_refusal(r: Checked) -> [u64; 4]
     match r {
         Checked::Records(_) => [0; 4],
         Checked::Refused(f) => refusal_numbers(f),
-    }
-}
-
-// ---- dates
-
-// A date in a style: 1 western, 2 era, any other number for none named.
-pub fn made(year: u16, month: u8, day: u8, style: u8) -> Made
-    ensures { λ r. ⌜ r ≡ makeStyled year month day style ⌝ }
-{
-    if style == 1 {
-        return Date::western(year, month, day);
-    }
-    if style == 2 {
-        return Date::era(year, month, day);
-    }
-    Date::of(year, month, day)
-}
-
-pub fn made_number(m: Made) -> u8
-    ensures { λ r. ⌜ r ≡ madeNumber m ⌝ }
-{
-    match m {
-        Made::Day(_) => 0,
-        Made::None => 27,
-    }
-}
-
-pub fn made_numbers(m: Made, before: [u64; 4]) -> [u64; 4]
-    ensures { λ r. ⌜ r ≡ madeNumbers m before ⌝ }
-{
-    match m {
-        Made::Day(t) => [t.era as u64, t.year as u64, t.month as u64, t.day as u64],
-        Made::None => before,
-    }
-}
-
-pub fn made_text(m: Made, before: [u8; 8]) -> [u8; 8]
-    ensures { λ r. ⌜ r ≡ madeText m before ⌝ }
-{
-    match m {
-        Made::Day(t) => {
-            let text = date::print(t);
-            text.bytes
-        }
-        Made::None => before,
     }
 }

@@ -3,7 +3,7 @@ use mathlib.Core.Path.{_≡_, _∙_, ap, sym}
 use Rattle.reader.specs.Reader.{nextRecord}
 use Rattle.reader.specs.declared.Step.{Step}
 use Rattle.reader.proofs.Laws.{again-refused, again-end}
-use Rattle.plain.specs.States.{readerNumbers, readerOf}
+use Rattle.told.specs.States.{readerNumbers, readerOf}
 use Rattle.capi.proofs.Kept.{steps-on, steps-refused, steps-end}
 use borrow.Author.Needs.{needs}
 use Rattle.capi.proofs.yws_sheet_next.Statement.{statement}

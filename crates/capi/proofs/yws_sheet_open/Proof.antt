@@ -1,6 +1,6 @@
 -- By the calls.
 use mathlib.Core.Path.{_∙_}
-use Rattle.plain.specs.States.{readerNumbers}
+use Rattle.told.specs.States.{readerNumbers}
 use borrow.Author.Needs.{needs}
 use Rattle.capi.proofs.yws_sheet_open.Statement.{statement}
 use Rattle.capi.proofs.yws_sheet_open.Tie as tie

@@ -1,6 +1,6 @@
 -- By whether it was closed.
 use mathlib.Core.Path.{_≡_, _∙_}
-use Rattle.plain.specs.States.{writerOf}
+use Rattle.told.specs.States.{writerOf}
 use Rattle.writer.specs.Writer.{closeBuffer}
 use Rattle.capi.proofs.Kept.{puts-on, puts-refused}
 use borrow.Author.Needs.{needs}

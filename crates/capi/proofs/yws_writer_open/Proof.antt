@@ -1,7 +1,7 @@
 -- By the calls.
 use mathlib.Core.Path.{_∙_, ap}
 use Rattle.writer.specs.Writer.{Left}
-use Rattle.plain.specs.States.{writerNumbers}
+use Rattle.told.specs.States.{writerNumbers}
 use borrow.Author.Needs.{needs}
 use Rattle.capi.proofs.yws_writer_open.Statement.{statement}
 use Rattle.capi.proofs.yws_writer_open.Tie as tie

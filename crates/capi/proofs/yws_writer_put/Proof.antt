@@ -1,7 +1,7 @@
 -- By whether it was put.
 use mathlib.Core.Path.{_≡_, _∙_}
-use Rattle.plain.specs.States.{writerOf}
-use Rattle.plain.specs.Records.{recordOf}
+use Rattle.told.specs.States.{writerOf}
+use Rattle.plain_record.specs.Records.{recordOf}
 use Rattle.writer.specs.Writer.{putRecord}
 use Rattle.capi.proofs.Kept.{puts-on, puts-refused}
 use borrow.Author.Needs.{needs}
