@@ -1,7 +1,6 @@
 // The public operations for C and Rust, on numbers and bytes. include/yawsimbel.h has the layout of each array. A refusal leaves every lent
-// array as it was, but for the one that says where and why. The calls on codes and dates are those of `codes`, passed on: a static library has
-// one crate's calls.
-use reader::Handed;
+// array as it was, but for the one that says where and why. A static library has the calls of one crate: these hand on to `code_calls`,
+// `sheet_calls` and `writer_calls`.
 ghost use Rattle.cells.specs.Writing.{Writes};
 ghost use Rattle.usage.specs.Usage.{readUsage};
 ghost use Rattle.usage.specs.declared.Instruction.{Instruction};
@@ -13,10 +12,12 @@ ghost use Rattle.reader.specs.Reader.{openFile, nextRecord};
 ghost use Rattle.writer.specs.Writer.{openBuffer, putRecord, closeBuffer};
 ghost use Rattle.plain.specs.Codes.{usageNumbers, instructionOf, supplementNumbers, supplementOf};
 ghost use Rattle.plain_record.specs.Records.{recordOf};
-ghost use Rattle.told.specs.States.{readerOf, writerOf};
-ghost use Rattle.codes.specs.Answers.{makeStyled};
-ghost use Rattle.codes.specs.Calls.{Reads, ReadsRun, TellsSet, Makes};
-ghost use Rattle.capi.specs.Calls.{Checks, Opens, Steps, OpensBuffer, Puts};
+ghost use Rattle.told.specs.States.{readerOf};
+ghost use Rattle.code_calls.specs.Answers.{makeStyled};
+ghost use Rattle.code_calls.specs.Calls.{Reads, ReadsRun, TellsSet, Makes};
+ghost use Rattle.sheet_calls.specs.Calls.{Checks, Opens, Steps};
+ghost use Rattle.writer_calls.specs.State.{writerOf};
+ghost use Rattle.writer_calls.specs.Calls.{OpensBuffer, Puts};
 
 // ---- usage codes
 
@@ -25,7 +26,7 @@ ghost use Rattle.capi.specs.Calls.{Checks, Opens, Steps, OpensBuffer, Pu
 pub extern "C" fn yws_usage_read(code: &[u8], numbers: &mut [u64; 25], place: &mut u64) -> u8
     ensures { λ r. ⌜ Reads Instruction usageNumbers (readUsage (now (code .entry))) (now (numbers .entry)) r (now (place .exit)) (now (numbers .exit)) ⌝ }
 {
-    codes::usage_read(code, numbers, place)
+    code_calls::usage_read(code, numbers, place)
 }
 
 // Writes a usage code.
@@ -33,7 +34,7 @@ pub extern "C" fn yws_usage_read(code: &[u8], numbers: &mut [u64; 25], place: &m
 pub extern "C" fn yws_usage_write(numbers: &[u64; 25], code: &mut [u8; 16]) -> u8
     ensures { λ r. ⌜ Writes Instruction readUsage (now (code .entry)) (instructionOf (now (numbers .entry))) r (now (code .exit)) ⌝ }
 {
-    codes::usage_write(numbers, code)
+    code_calls::usage_write(numbers, code)
 }
 
 // ---- supplementary codes
@@ -43,7 +44,7 @@ pub extern "C" fn yws_usage_write(numbers: &[u64; 25], code: &mut [u8; 16]) -> u
 pub extern "C" fn yws_supplement_read(code: &[u8], numbers: &mut [u64; 22], place: &mut u64) -> u8
     ensures { λ r. ⌜ Reads Supplement supplementNumbers (readSupplement (now (code .entry))) (now (numbers .entry)) r (now (place .exit)) (now (numbers .exit)) ⌝ }
 {
-    codes::supplement_read(code, numbers, place)
+    code_calls::supplement_read(code, numbers, place)
 }
 
 // Writes a supplementary code.
@@ -51,7 +52,7 @@ pub extern "C" fn yws_supplement_read(code: &[u8], numbers: &mut [u64; 22], plac
 pub extern "C" fn yws_supplement_write(numbers: &[u64; 22], code: &mut [u8; 8]) -> u8
     ensures { λ r. ⌜ Writes Supplement readSupplement (now (code .entry)) (supplementOf (now (numbers .entry))) r (now (code .exit)) ⌝ }
 {
-    codes::supplement_write(numbers, code)
+    code_calls::supplement_write(numbers, code)
 }
 
 // ---- runs and sets of days
@@ -66,7 +67,7 @@ pub extern "C" fn yws_run_read(
 ) -> u8
     ensures { λ r. ⌜ ReadsRun (readRun issue (now (codes .entry))) (now (days .entry)) r (now (refusal .exit)) (now (days .exit)) ⌝ }
 {
-    codes::run_read(issue, codes, days, refusal)
+    code_calls::run_read(issue, codes, days, refusal)
 }
 
 // Writes the run for a set of days.
@@ -74,7 +75,7 @@ pub extern "C" fn yws_run_read(
 pub extern "C" fn yws_set_write(issue: u8, days: &[u32; 13], out: &mut [u8], count: &mut u64) -> u8
     ensures { λ r. ⌜ TellsSet issue (now (days .entry)) (now (out .entry)) (now (out .exit)) r (now (count .entry)) (now (count .exit)) ⌝ }
 {
-    codes::set_write(issue, days, out, count)
+    code_calls::set_write(issue, days, out, count)
 }
 
 // ---- sheets, read
@@ -84,10 +85,7 @@ pub extern "C" fn yws_set_write(issue: u8, days: &[u32; 13], out: &mut [u8], cou
 pub extern "C" fn yws_sheet_check(file: &[u8], records: &mut u64, refusal: &mut [u64; 4]) -> u8
     ensures { λ r. ⌜ Checks (checkFile (now (file .entry))) (now (records .entry)) r (now (refusal .exit)) (now (records .exit)) ⌝ }
 {
-    let r = reader::check(file);
-    *records = told::checked_records(r, *records);
-    *refusal = told::checked_refusal(r);
-    told::checked_number(r)
+    sheet_calls::check(file, records, refusal)
 }
 
 // Opens a sheet to read.
@@ -95,9 +93,7 @@ pub extern "C" fn yws_sheet_check(file: &[u8], records: &mut u64, refusal: &mut 
 pub extern "C" fn yws_sheet_open(file: &[u8], state: &mut [u64; 11]) -> u8
     ensures { λ r. ⌜ Opens (openFile (now (file .entry))) r (now (state .exit)) ⌝ }
 {
-    let t = reader::open(file);
-    *state = told::reader_numbers(t);
-    t.number
+    sheet_calls::open(file, state)
 }
 
 // The next record of a sheet.
@@ -110,25 +106,7 @@ pub extern "C" fn yws_sheet_next(
 ) -> u8
     ensures { λ r. ⌜ Steps (nextRecord (now (file .entry)) (readerOf (now (state .entry)))) (now (state .entry)) (now (numbers .entry)) r (now (refusal .exit)) (now (state .exit)) (now (numbers .exit)) ⌝ }
 {
-    let step = reader::next(file, told::reader_state(state));
-    let handed = step.next;
-    let t = step.state;
-    match handed {
-        Handed::Record(r) => {
-            *state = told::reader_numbers(t);
-            plain_record::record_numbers(r, numbers);
-            *refusal = [0; 4];
-            0
-        }
-        Handed::Refused(f) => {
-            *refusal = told::refusal_numbers(f);
-            f.number
-        }
-        Handed::End => {
-            *refusal = [0; 4];
-            255
-        }
-    }
+    sheet_calls::next(file, state, numbers, refusal)
 }
 
 // ---- sheets, written
@@ -138,10 +116,7 @@ pub extern "C" fn yws_sheet_next(
 pub extern "C" fn yws_writer_open(out: &mut [u8], state: &mut [u64; 11]) -> u8
     ensures { λ r. ⌜ OpensBuffer (openBuffer (now (out .entry))) r (now (out .exit)) (now (state .exit)) ⌝ }
 {
-    let opened = writer::open(out);
-    let t = opened.state;
-    *state = told::writer_numbers(t);
-    opened.number
+    writer_calls::open(out, state)
 }
 
 // Puts a record.
@@ -155,18 +130,7 @@ pub extern "C" fn yws_writer_put(
 ) -> u8
     ensures { λ r. ⌜ Puts (putRecord (now (out .entry)) (writerOf (now (state .entry))) (recordOf (now (numbers .entry))) (now (lent .entry))) (now (state .entry)) r (now (own .exit)) (now (out .exit)) (now (state .exit)) ⌝ }
 {
-    let put = writer::put(
-        out,
-        told::writer_state(state),
-        plain_record::record(numbers),
-        lent,
-    );
-    let t = put.state;
-    *own = put.own as u64;
-    if put.number == 0 {
-        *state = told::writer_numbers(t);
-    }
-    put.number
+    writer_calls::put(out, state, numbers, lent, own)
 }
 
 // Writes the end.
@@ -174,13 +138,7 @@ pub extern "C" fn yws_writer_put(
 pub extern "C" fn yws_writer_close(out: &mut [u8], state: &mut [u64; 11], own: &mut u64) -> u8
     ensures { λ r. ⌜ Puts (closeBuffer (now (out .entry)) (writerOf (now (state .entry)))) (now (state .entry)) r (now (own .exit)) (now (out .exit)) (now (state .exit)) ⌝ }
 {
-    let closed = writer::close(out, told::writer_state(state));
-    let t = closed.state;
-    *own = closed.own as u64;
-    if closed.number == 0 {
-        *state = told::writer_numbers(t);
-    }
-    closed.number
+    writer_calls::close(out, state, own)
 }
 
 // ---- dates
@@ -197,5 +155,5 @@ pub extern "C" fn yws_date_make(
 ) -> u8
     ensures { λ r. ⌜ Makes (makeStyled year month day style) (now (numbers .entry)) (now (text .entry)) r (now (numbers .exit)) (now (text .exit)) ⌝ }
 {
-    codes::date_make(year, month, day, style, numbers, text)
+    code_calls::date_make(year, month, day, style, numbers, text)
 }

@@ -1,7 +1,8 @@
--- What a number of a caller's array is held as.
+-- What a number of a caller's array is held as, and what a call leaves in an array.
 -- Assumes nothing.
 use Prim.Native.Nat.{ℕ, min}
 use mathlib.Core.Bool.{Bool, not, cond}
+use mathlib.Core.List.{List}
 use lib.Dec.{eqb}
 
 -- A number too large for its place is held as the largest that the place has room for, which is in no field's range and in no code.
@@ -23,3 +24,7 @@ flag n = not (eqb n 0)
 -- As a number.
 abbrev pub bit : Bool → ℕ
 bit b = cond b 1 0
+
+-- What a call leaves that returns a number: after a refusal, what was there.
+unfoldable pub unless0 : ℕ → List ℕ → List ℕ → List ℕ
+unless0 number after before = cond (eqb number 0) after before

@@ -7,9 +7,8 @@ use mathlib.Core.List.{[], _∷_}
 use mir.Val.{boolByte}
 use Rattle.field.specs.declared.Sofar.{Sofar}
 use Rattle.reader.specs.declared.State.{State as Reader}
-use Rattle.writer.specs.declared.State.{State as Writer}
 use Rattle.plain.specs.Held.{flag, bit}
-use Rattle.told.specs.States.{sofarNumbers, sofarOf, readerNumbers, readerOf, writerNumbers, writerOf, FitsSofar}
+use Rattle.told.specs.States.{sofarNumbers, sofarOf, readerNumbers, readerOf, FitsSofar}
 use Rattle.plain.specs.Fits.{Within}
 use Rattle.plain.proofs.Laws.{at}
 
@@ -19,12 +18,12 @@ as-bit true = refl
 as-bit false = refl
 
 -- Yes or no is held as itself.
-flagged : (b : Bool) → flag (bit b) ≡ b
+pub flagged : (b : Bool) → flag (bit b) ≡ b
 flagged true = refl
 flagged false = refl
 
 -- What the records before leave.
-sofar-back : {c : Sofar} → FitsSofar c → (a b : ℕ) → sofarOf (a ∷ b ∷ sofarNumbers c) ≡ c
+pub sofar-back : {c : Sofar} → FitsSofar c → (a b : ℕ) → sofarOf (a ∷ b ∷ sofarNumbers c) ≡ c
 sofar-back {c} w a b = λ j.
     record {
       last = at (w .halves) 0 j;
@@ -38,7 +37,3 @@ sofar-back {c} w a b = λ j.
 -- A reader's state.
 pub reader-back : {t : Reader} → Within 255 (t .number ∷ []) → FitsSofar (t .sofar) → readerOf (readerNumbers t) ≡ t
 reader-back {t} n w = λ j. record { number = at n 0 j; at = t .at; sofar = sofar-back w (t .at) (t .number) j }
-
--- A writer's state.
-pub writer-back : {t : Writer} → FitsSofar (t .sofar) → writerOf (writerNumbers t) ≡ t
-writer-back {t} w = λ j. record { at = t .at; closed = flagged (t .closed) j; sofar = sofar-back w (t .at) (bit (t .closed)) j }

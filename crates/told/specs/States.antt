@@ -1,4 +1,4 @@
--- The states of a reader and of a writer as eleven numbers. The first is where it is: an offset in the file, the bytes written so far.
+-- The state of a reader as eleven numbers. The first is where it is, an offset in the file.
 -- Assumes nothing.
 use Prim.Native.Nat.{ℕ}
 use mathlib.Core.List.{List, [], _∷_}
@@ -6,7 +6,6 @@ use lib.ListN.{getD}
 use Rattle.schedule.specs.declared.Schedule.{Schedule}
 use Rattle.field.specs.declared.Sofar.{Sofar}
 use Rattle.reader.specs.declared.State.{State as Reader}
-use Rattle.writer.specs.declared.State.{State as Writer}
 use Rattle.plain.specs.Fits.{Within}
 use Rattle.plain.specs.Held.{byte, half, flag, bit}
 
@@ -18,10 +17,6 @@ sofarNumbers c = c .last ∷ c .month ∷ c .rp .0 ∷ c .drug .0 ∷ c .supplem
 abbrev pub readerNumbers : Reader → List ℕ
 readerNumbers t = t .at ∷ t .number ∷ sofarNumbers (t .sofar)
 
--- A writer's: where it is, and whether it is closed.
-abbrev pub writerNumbers : Writer → List ℕ
-writerNumbers t = t .at ∷ bit (t .closed) ∷ sofarNumbers (t .sofar)
-
 -- Back: the supplements of the RP,
 abbrev pub scheduleOf : List ℕ → Schedule
 scheduleOf n = record { letter = byte (getD n 7 0); month = byte (getD n 8 0); last = byte (getD n 9 0); full = flag (getD n 10 0) }
@@ -30,13 +25,9 @@ scheduleOf n = record { letter = byte (getD n 7 0); month = byte (getD n 8 0); l
 abbrev pub sofarOf : List ℕ → Sofar
 sofarOf n = record { last = half (getD n 2 0); month = byte (getD n 3 0); rp = record { 0 = half (getD n 4 0) }; drug = record { 0 = half (getD n 5 0) }; supplement = record { 0 = half (getD n 6 0) }; schedule = scheduleOf n }
 
--- a reader,
+-- and the reader.
 abbrev pub readerOf : List ℕ → Reader
 readerOf n = record { number = byte (getD n 1 0); at = getD n 0 0; sofar = sofarOf n }
-
--- and a writer.
-abbrev pub writerOf : List ℕ → Writer
-writerOf n = record { at = getD n 0 0; closed = flag (getD n 1 0); sofar = sofarOf n }
 
 -- What the records before leave fits the places that it is held in.
 pub record FitsSofar (c : Sofar) : Type 0 where

@@ -1,4 +1,4 @@
-// States and answers as plain numbers: what is left in the arrays that a call on a sheet is lent, and what it returns.
+// A state and an answer as plain numbers: what is left in the arrays that a call on a sheet is lent, and what it returns.
 use counter::DrugSerial;
 use counter::RpNumber;
 use counter::SupplementSerial;
@@ -7,7 +7,7 @@ use reader::Checked;
 use record::Refusal;
 use schedule::Schedule;
 ghost use mathlib.Core.Path.{_≡_};
-ghost use Rattle.told.specs.States.{scheduleOf, sofarOf, readerNumbers, readerOf, writerNumbers, writerOf};
+ghost use Rattle.told.specs.States.{scheduleOf, sofarOf, readerNumbers, readerOf};
 ghost use Rattle.told.specs.Answers.{refusalNumbers, checkedNumber, checkedRecords, checkedRefusal};
 
 // ---- states
@@ -23,7 +23,8 @@ fn schedule_of(n: &[u64]) -> Schedule
     }
 }
 
-fn sofar(n: &[u64]) -> Sofar
+// What the records before leave, of the last nine of eleven numbers.
+pub fn sofar(n: &[u64]) -> Sofar
     ensures { λ r. ⌜ r ≡ sofarOf (now (n .entry)) ⌝ }
 {
     Sofar {
@@ -56,38 +57,6 @@ pub fn reader_numbers(t: reader::State) -> [u64; 11]
     [
         t.at as u64,
         t.number as u64,
-        c.last as u64,
-        c.month as u64,
-        c.rp.0 as u64,
-        c.drug.0 as u64,
-        c.supplement.0 as u64,
-        s.letter as u64,
-        s.month as u64,
-        s.last as u64,
-        s.full as u64,
-    ]
-}
-
-// A writer's state of eleven numbers.
-pub fn writer_state(n: &[u64]) -> writer::State
-    ensures { λ r. ⌜ r ≡ writerOf (now (n .entry)) ⌝ }
-{
-    writer::State {
-        at: plain::at(n, 0) as usize,
-        closed: plain::flag_at(n, 1),
-        sofar: sofar(n),
-    }
-}
-
-// Its numbers, which are held as the state.
-pub fn writer_numbers(t: writer::State) -> [u64; 11]
-    ensures { λ r. ⌜ (r ≡ writerNumbers t) × (writerOf r ≡ t) ⌝ }
-{
-    let c = t.sofar;
-    let s = c.schedule;
-    [
-        t.at as u64,
-        t.closed as u64,
         c.last as u64,
         c.month as u64,
         c.rp.0 as u64,

@@ -1,0 +1,20 @@
+-- A record that was read is written again. The statements of the calls give each answer as a function of what is lent.
+-- Assumes nothing.
+use Prim.Native.Nat.{ℕ}
+use mathlib.Core.Path.{_≡_, _∙_, ap}
+use mathlib.Core.List.{List}
+use Rattle.record.specs.declared.Record.{Record}
+use Rattle.reader.specs.Reader.{nextRecord}
+use Rattle.reader.specs.declared.State.{State}
+use Rattle.reader.specs.declared.Handed.{Handed}
+use Rattle.reader.specs.declared.Handed.the-variants.{Record as Hands}
+use Rattle.plain_record.specs.Records.{recordOf}
+use Rattle.told.proofs.Handed.{record-held}
+use Rattle.told.specs.Answers.{handedRecord}
+use Rattle.sheet_calls.specs.Calls.{Steps}
+
+-- A record that was handed out: its numbers, handed to the writer, are that record
+pub record-again : (s state₀ numbers₀ refusal state numbers : List ℕ) (t : State) (r : Record) (n : ℕ) → nextRecord s t .next ≡ Hands r →
+    Steps (nextRecord s t) state₀ numbers₀ n refusal state numbers → recordOf numbers ≡ r
+record-again s state₀ numbers₀ refusal state numbers t r n h w =
+    ap recordOf (w .leaves ∙ ap (λ (x : Handed). handedRecord x numbers₀) h) ∙ record-held s t r h
