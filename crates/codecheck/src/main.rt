@@ -129,10 +129,10 @@ fn on_room(line: &[u8], at: usize, month: u8, days: days::DaySet) {
 fn say_written(month: u8, days: days::DaySet, room: usize) {
     let mut codes = [0u8; 536];
     if room <= 536 {
-        let w = days::write_run(month, days, &mut codes[0..room]);
+        let w = days_writer::write_run(month, days, &mut codes[0..room]);
         match w {
-            days::Wrote::Codes(n) => say::codes(n, &codes),
-            days::Wrote::Refused(f) => say::refusal(f.number, f.place),
+            days_writer::Wrote::Codes(n) => say::codes(n, &codes),
+            days_writer::Wrote::Refused(f) => say::refusal(f.number, f.place),
         }
     }
 }

@@ -1,13 +1,8 @@
 pub mod Under
-pub mod Mask
-pub mod Months
-pub mod Sixes
-pub mod Back
-pub mod Sets
-pub mod Again
+pub mod Rising
+pub mod Next
+pub mod Named
 pub mod Text
-pub mod Whole
+pub mod Month
 pub mod Laws
-pub mod Put
-pub mod Answers
 pub mod Walk

@@ -22,15 +22,12 @@ use Rattle.supplement.specs.declared.Reading.{Reading}
 use Rattle.supplement.specs.declared.Reading.the-variants.{Taken}
 use Rattle.days.specs.Run.{Code, upto0, codeOf, lastOf, follows, allowed, eights, stopped, stop, codesOf, maskOf, daysAt, setOf, noDays, takes, refuses, concluded, answersIn}
 use Rattle.days.specs.declared.Date.{Date}
-use Rattle.days.specs.Code.Print.{code, Good}
+use Rattle.days.specs.Code.Good.{code, Good}
 use Rattle.days.specs.Code.Walk.{columns, sixOf, Told, HasText, noDate, Dated, mayFollow, haltAt}
 use Rattle.days.proofs.Under.{last-most}
-use Rattle.days.proofs.Mask.{mask-below, mask-append}
-use Rattle.days.proofs.Sixes.{Goods, goods-append}
-use Rattle.days.proofs.Back.{days-none, days-same, days-other, rise, length-set, set-at}
-use Rattle.days.proofs.Again.{days-append}
-use Rattle.days.proofs.Text.{date}
-use Rattle.days.proofs.Whole.{refused-some}
+use Rattle.days.proofs.Rising.{mask-below, mask-append}
+use Rattle.days.proofs.Named.{Goods, goods-append, days-same, days-other, days-none, days-append, rise, length-set, set-at}
+use Rattle.days.proofs.Text.{date, refused-some}
 
 -- ---- the days of a code, up to its first 0
 
@@ -205,11 +202,11 @@ dated-month s (took x) d e h =
 -- ---- the days so far, with those of one code more
 
 -- a run's mask for a month fits
-run-below : (issue : ℕ) (cs : List Code) (m : ℕ) → 1 ≤ issue → issue ≤ 12 → m ≤ 12 → Goods cs → allowed issue cs ≡ true → maskOf (daysAt m cs) < 2147483648
+run-below : (issue : ℕ) (cs : List Code) (m : ℕ) → m ≤ 12 → Goods cs → allowed issue cs ≡ true → maskOf (daysAt m cs) < 2147483648
 unfolding allowed
-run-below issue [] m lo hi h g k = absurd (let z : _≡_ {A = ℕ} 0 1 = cc in omega arith)
-run-below issue (c ∷ cs) m lo hi h g k =
-    let a = mask-below (lastDay m) (daysAt m (c ∷ cs)) (rise issue lo hi cs c m (g .0) (g .1) k) in
+run-below issue [] m h g k = absurd (let z : _≡_ {A = ℕ} 0 1 = cc in omega arith)
+run-below issue (c ∷ cs) m h g k =
+    let a = mask-below (lastDay m) (daysAt m (c ∷ cs)) (rise issue cs c m (g .0) (g .1) k) in
     let p : 2 ^ lastDay m ≤ 2 ^ 31 = pow-mono (last-most m h) in
     omega arith
 
@@ -279,9 +276,9 @@ module _ (issue : ℕ) (s : List ℕ) (at k : ℕ) (a : Date) (cells : List ℕ)
         go (goes c g t f e q n) = absurd (z n)
 
     -- a code that goes on with it: its days fit into the set, and the walk goes on behind it
-    pub walk-on : 1 ≤ issue → issue ≤ 12 → haltAt issue k a d .number ≡ 0 →
+    pub walk-on : haltAt issue k a d .number ≡ 0 →
         (getD cells (d .month) 0 + d .mask < 2 ^ 32) × Walked issue s (at + 8) (k + 1) d (set cells (d .month) (getD cells (d .month) 0 + d .mask))
-    walk-on lo hi z = go here
+    walk-on z = go here
       where
         m : d .month ≤ 12
         m = dated-month (take 8 (drop at s)) (readSupplement (take 8 (drop at s))) d refl h
@@ -291,7 +288,7 @@ module _ (issue : ℕ) (s : List ℕ) (at k : ℕ) (a : Date) (cells : List ℕ)
         go (stops e n) = absurd (n z)
         go (goes c g t f e q n) =
             let gs : Goods (w .seen ++ (c ∷ [])) = goods-append (w .seen) (c ∷ []) (w .good) (g, tt) in
-            let b = run-below issue (w .seen ++ (c ∷ [])) (d .month) lo hi m gs f in (
+            let b = run-below issue (w .seen ++ (c ∷ [])) (d .month) m gs f in (
               omega (arith, cells-own (w .seen) c d t cells (w .set) m),
               record {
                 seen = w .seen ++ (c ∷ []);

@@ -1,4 +1,3 @@
 -- The definitions in the code's shape, which the contracts of the private functions cite. No public contract does.
-pub mod Mask
-pub mod Print
+pub mod Good
 pub mod Walk

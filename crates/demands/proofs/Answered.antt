@@ -25,11 +25,11 @@ use Rattle.supplement_writer.proofs.Writing as supplementWriter
 use Rattle.supplement_writer.proofs.Laws as supplementLaws
 use Rattle.order.proofs.Bools.{clash}
 use Rattle.days.specs.Run.{takes, aMonth, readRun}
-use Rattle.days.specs.Set.{writable, WritesSet}
-use Rattle.days.specs.Code.Print.{printed}
-use Rattle.days.specs.declared.Wrote.{Wrote}
-use Rattle.days.specs.declared.Wrote.the-variants.{Codes, Refused}
-use Rattle.days.proofs.Laws as days
+use Rattle.days_writer.specs.Set.{writable, WritesSet}
+use Rattle.days_writer.specs.Code.Print.{printed}
+use Rattle.days_writer.specs.declared.Wrote.{Wrote}
+use Rattle.days_writer.specs.declared.Wrote.the-variants.{Codes, Refused}
+use Rattle.days_writer.proofs.Laws as days
 use Rattle.demands.specs.One.{One}
 
 -- An instruction,

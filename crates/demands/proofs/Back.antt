@@ -22,9 +22,9 @@ use Rattle.supplement_writer.specs.Writes.{WritesSupplement}
 use Rattle.supplement_writer.specs.declared.Written.{Written as WrittenSupplement}
 use Rattle.supplement_writer.proofs.Laws as supplement
 use Rattle.days.specs.Run.{takes, aMonth, readRun}
-use Rattle.days.specs.Set.{writable, said, WritesSet}
-use Rattle.days.specs.declared.Wrote.{Wrote}
-use Rattle.days.proofs.Laws as days
+use Rattle.days_writer.specs.Set.{writable, said, WritesSet}
+use Rattle.days_writer.specs.declared.Wrote.{Wrote}
+use Rattle.days_writer.proofs.Laws as days
 use Rattle.demands.proofs.Runs.{its-month, whole-codes}
 
 -- ---- codes

@@ -14,12 +14,13 @@ use Rattle.cells.proofs.Alike.{and-left, and-right, each}
 use Rattle.supplement.specs.Supplement.{readSupplement}
 use Rattle.supplement.specs.declared.Supplement.{Supplement}
 use Rattle.days.specs.Run.{Code, codeOf, allowed, maskOf, daysAt, setOf}
-use Rattle.days.specs.Code.Mask.{days, since}
-use Rattle.days.specs.Code.Print.{monthAt, daysIn, runOf, codeBytes}
-use Rattle.days.proofs.Months.{month-most}
-use Rattle.days.proofs.Sixes.{Goods}
+use Rattle.days.specs.Code.Good.{codeBytes}
+use Rattle.days.proofs.Named.{Goods, set-at}
 use Rattle.days.proofs.Text.{date}
-use Rattle.days.proofs.Back.{codes-none, set-at, back}
+use Rattle.days_writer.specs.Code.Mask.{days, since}
+use Rattle.days_writer.specs.Code.Print.{monthAt, daysIn, runOf}
+use Rattle.days_writer.proofs.Months.{month-most}
+use Rattle.days_writer.proofs.Back.{codes-none, back}
 use Rattle.schedule.specs.Schedule.{dates, dateRun, single, list}
 
 -- A supplement that some code reads as.

@@ -8,8 +8,8 @@ use mathlib.Core.List.{List, map}
 use lib.ListN.{length}
 use Rattle.cells.specs.Test.{took, refused}
 use Rattle.line.proofs.Laws.{Place}
-use Rattle.days.specs.Set.{said, WritesSet}
-use Rattle.days.specs.declared.Wrote.{Wrote}
+use Rattle.days_writer.specs.Set.{said, WritesSet}
+use Rattle.days_writer.specs.declared.Wrote.{Wrote}
 use Rattle.record.specs.declared.Record.{Record}
 use Rattle.record.specs.declared.Refusal.{Refusal}
 use Rattle.reader.specs.File.{stopped, readFile, numberOf}

@@ -9,10 +9,10 @@ use mathlib.Core.List.{List, map}
 use mathlib.Core.Logic.{_↔_}
 use lib.ListN.{length}
 use Rattle.days.specs.Run.{takes, readRun}
-use Rattle.days.specs.Set.{empty, noSuchDay, mixes, writable}
-use Rattle.days.specs.Code.Print.{printed}
-use Rattle.days.proofs.Whole.{a-month}
-use Rattle.days.proofs.Laws.{can-be-written, only-these}
+use Rattle.days.proofs.Month.{a-month}
+use Rattle.days_writer.specs.Set.{empty, noSuchDay, mixes, writable}
+use Rattle.days_writer.specs.Code.Print.{printed}
+use Rattle.days_writer.proofs.Laws.{can-be-written, only-these}
 use Rattle.order.proofs.Bools.{clash, not-is}
 use Rattle.record.specs.declared.Record.{Record}
 use Rattle.reader.specs.File.{readFile}

@@ -17,8 +17,8 @@ use Rattle.supplement.specs.declared.Supplement.{Supplement}
 use Rattle.supplement_writer.specs.Writes.{WritesSupplement}
 use Rattle.supplement_writer.specs.declared.Written.{Written as WrittenSupplement}
 use Rattle.days.specs.Run.{takes, readRun}
-use Rattle.days.specs.Set.{said, WritesSet}
-use Rattle.days.specs.declared.Wrote.{Wrote}
+use Rattle.days_writer.specs.Set.{said, WritesSet}
+use Rattle.days_writer.specs.declared.Wrote.{Wrote}
 use Rattle.record.specs.declared.Record.{Record}
 use Rattle.reader.specs.File.{File, whole, readFile}
 use Rattle.reader.specs.Reader.{openFile, call, told}

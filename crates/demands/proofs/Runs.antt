@@ -15,9 +15,9 @@ use Rattle.cells.proofs.Split.{split}
 use Rattle.supplement.specs.Supplement.{readSupplement}
 use Rattle.supplement.specs.declared.Supplement.{Supplement}
 use Rattle.days.specs.Run.{Code, codeOf, allowed, eights, stop, takes, aMonth, answersIn, readRun}
-use Rattle.days.specs.Set.{writable, said, WritesSet}
 use Rattle.days.specs.declared.Run.{Run}
-use Rattle.days.specs.declared.Wrote.{Wrote}
+use Rattle.days_writer.specs.Set.{writable, said, WritesSet}
+use Rattle.days_writer.specs.declared.Wrote.{Wrote}
 use Rattle.demands.specs.Numbers.{RunNumber, notWhole, empty, noRun, own, SetNumber, cannot, room}
 use Rattle.demands.specs.Numbers as numbers
 use Rattle.demands.specs.Lent.{OnlyBetween}

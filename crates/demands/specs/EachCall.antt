@@ -15,8 +15,8 @@ use Rattle.supplement.specs.declared.Supplement.{Supplement}
 use Rattle.supplement_writer.specs.Writes.{WritesSupplement}
 use Rattle.supplement_writer.specs.declared.Written.{Written as WrittenSupplement}
 use Rattle.days.specs.Run.{readRun}
-use Rattle.days.specs.Set.{WritesSet}
-use Rattle.days.specs.declared.Wrote.{Wrote}
+use Rattle.days_writer.specs.Set.{WritesSet}
+use Rattle.days_writer.specs.declared.Wrote.{Wrote}
 use Rattle.date.specs.declared.Made.{Made}
 use Rattle.record.specs.declared.Refusal.{Refusal}
 use Rattle.reader.specs.Reader.{openFile, nextRecord, call}

@@ -50,7 +50,7 @@ with-days-requires c κs =
     let l = c .before .before .before .before .before .loop in
     let d = c .before .before .before .code-at in
     let room : l .at + 8 ≤ length (now (a .s)) = omega (arith, c .before .before .before .before .before .before .before .before .pre) in
-    let w = walk-on (a .issue) (now (a .s)) (l .at) (l .k) (l .prior) (l .days .cells) (l .inv .2) (d .result) room (d .ensures) (omega arith) (omega arith) (sym (ap (λ (x : Halt). x .number) (c .before .before .halt-at .ensures)) ∙ c .if1 .left) in
+    let w = walk-on (a .issue) (now (a .s)) (l .at) (l .k) (l .prior) (l .days .cells) (l .inv .2) (d .result) room (d .ensures) (sym (ap (λ (x : Halt). x .number) (c .before .before .halt-at .ensures)) ∙ c .if1 .left) in
     (w .1 .month, w .0)
 
 add-at : tie.Need-add-at Inv-loop μ-loop
@@ -68,7 +68,7 @@ loop-again c =
     let l = c .before .before .before .before .before .before .loop in
     let d = c .before .before .before .before .code-at in
     let room : l .at + 8 ≤ length (now (a .s)) = omega (arith, c .before .before .before .before .before .before .before .before .before .pre) in
-    let w = walk-on (a .issue) (now (a .s)) (l .at) (l .k) (l .prior) (l .days .cells) (l .inv .2) (d .result) room (d .ensures) (omega arith) (omega arith) (sym (ap (λ (x : Halt). x .number) (c .before .before .before .halt-at .ensures)) ∙ c .before .if1 .left) in
+    let w = walk-on (a .issue) (now (a .s)) (l .at) (l .k) (l .prior) (l .days .cells) (l .inv .2) (d .result) room (d .ensures) (sym (ap (λ (x : Halt). x .number) (c .before .before .before .halt-at .ensures)) ∙ c .before .if1 .left) in
     (room, omega arith, rw (c .with-days .ensures) (w .1))
 
 returns-2 : tie.Need-returns-2 Inv-loop μ-loop

@@ -2,8 +2,7 @@
 -- Assumes nothing.
 use borrow.Author.Tests.{eq-eqb, ne-eqb}
 use Rattle.days.specs.Run.{readRun}
-use Rattle.days.proofs.Whole.{a-month}
-use Rattle.days.proofs.Answers.{before-first, past-last}
+use Rattle.days.proofs.Month.{a-month, before-first, past-last}
 use native.Mathlib.Omega.{arith}
 use borrow.Author.Needs.{needs}
 use Rattle.days.proofs.read_run.Statement.{statement}

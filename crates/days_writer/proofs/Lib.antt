@@ -1,0 +1,11 @@
+pub mod Mask
+pub mod Months
+pub mod Sixes
+pub mod Back
+pub mod Sets
+pub mod Again
+pub mod Text
+pub mod Whole
+pub mod Laws
+pub mod Put
+pub mod Answers
