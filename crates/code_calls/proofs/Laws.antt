@@ -18,9 +18,9 @@ use Rattle.supplement.specs.Supplement.{readSupplement}
 use Rattle.supplement.specs.declared.Supplement.{Supplement}
 use Rattle.supplement_writer.specs.Code.Write.{raw as rawSupplement}
 use Rattle.supplement_writer.proofs.Laws.{back as supplement-back, one-code as one-supplement-code}
-use Rattle.days.specs.Set.{said}
-use Rattle.days.specs.declared.Wrote.{Wrote}
-use Rattle.days.proofs.Laws.{one-written}
+use Rattle.days_writer.specs.Set.{said}
+use Rattle.days_writer.specs.declared.Wrote.{Wrote}
+use Rattle.days_writer.proofs.Laws.{one-written}
 use Rattle.plain.specs.Codes.{usageNumbers, instructionOf, supplementNumbers, supplementOf}
 use Rattle.plain.proofs.Read.{usage-held, supplement-held}
 use Rattle.code_calls.specs.Answers.{number, orCount}

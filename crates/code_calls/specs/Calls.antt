@@ -5,9 +5,9 @@ use mathlib.Core.Path.{_≡_}
 use mathlib.Core.List.{List, [], _∷_}
 use Rattle.cells.specs.Test.{Answer}
 use Rattle.date.specs.declared.Made.{Made}
-use Rattle.days.specs.Set.{WritesSet, said}
+use Rattle.days_writer.specs.Set.{WritesSet, said}
 use Rattle.days.specs.declared.Run.{Run}
-use Rattle.days.specs.declared.Wrote.{Wrote}
+use Rattle.days_writer.specs.declared.Wrote.{Wrote}
 use Rattle.plain.specs.Held.{unless0}
 use Rattle.code_calls.specs.Answers.{number, place, orBefore, orCount, madeNumber, madeNumbers, madeText}
 

@@ -3,7 +3,7 @@
 use date::Date;
 use date::Made;
 use days::DaySet;
-use days::Wrote;
+use days_writer::Wrote;
 ghost use mathlib.Core.Path.{_≡_};
 ghost use Rattle.cells.specs.Writing.{Writes};
 ghost use Rattle.usage.specs.Usage.{readUsage};
@@ -11,7 +11,7 @@ ghost use Rattle.usage.specs.declared.Instruction.{Instruction};
 ghost use Rattle.supplement.specs.Supplement.{readSupplement};
 ghost use Rattle.supplement.specs.declared.Supplement.{Supplement};
 ghost use Rattle.days.specs.Run.{readRun};
-ghost use Rattle.days.specs.Set.{said};
+ghost use Rattle.days_writer.specs.Set.{said};
 ghost use Rattle.plain.specs.Codes.{usageNumbers, instructionOf, supplementNumbers, supplementOf};
 ghost use Rattle.code_calls.specs.Answers.{number, orCount, makeStyled, madeNumber, madeNumbers, madeText};
 ghost use Rattle.code_calls.specs.Calls.{Reads, ReadsRun, TellsSet, Makes};
@@ -120,7 +120,7 @@ pub fn set_write(issue: u8, days: &[u32; 13], out: &mut [u8], count: &mut u64) -
     ensures { λ r. ⌜ TellsSet issue (now (days .entry)) (now (out .entry)) (now (out .exit)) r (now (count .entry)) (now (count .exit)) ⌝ }
 {
     let cells = *days;
-    let w = days::write_run(issue, DaySet { cells: cells }, out);
+    let w = days_writer::write_run(issue, DaySet { cells: cells }, out);
     *count = count_after(w, *count);
     wrote_number(w)
 }
