@@ -1,6 +1,6 @@
 -- What is wrong with a record's parts, judged one by one, is what the reader says of its line.
 -- Assumes nothing.
-use Prim.Native.Nat.{ℕ, _+_, _-_, _≤_}
+use Prim.Native.Nat.{ℕ, _+_, _≤_}
 use mathlib.Core.Path.{_≡_, refl, _∙_, sym, ap}
 use mathlib.Core.Bool.{Bool, true, false, cond, _&&_}
 use mathlib.Core.List.{List, [], _∷_, _++_, map}
@@ -22,13 +22,13 @@ use Rattle.field.specs.declared.Sofar.{Sofar}
 use Rattle.row.specs.Table.{typed, rulesOf, rules, counted}
 use Rattle.row.specs.Row.{fieldByField, readRow}
 use Rattle.row.specs.declared.Row.{Row}
-use Rattle.printed.specs.Printed.{noField}
+use Rattle.laid.specs.Laid.{noField, textOr, Laid}
 use Rattle.record.specs.Line.{refusal, rowRefusal, fromRow, readFields, recordNumber, readParts}
 use Rattle.record.specs.declared.Refusal.{Refusal}
 use Rattle.record.specs.declared.Answer.the-variants.{Refused}
 use Rattle.held.proofs.Numbers.{number-value}
-use Rattle.entry.specs.Entry.{textOr, numberIn}
-use Rattle.entry.specs.Code.Judge.{Laid, wrongTyped, textsWrong, wrongIn}
+use Rattle.entry.specs.Entry.{numberIn}
+use Rattle.entry.specs.Code.Judge.{wrongTyped, textsWrong, wrongIn}
 
 -- ---- the record's number, as it is written and read
 -- a number is read as itself, or as none

@@ -1,6 +1,6 @@
 -- What holds of the parts of a record's line, over the rules alone.
 -- Assumes nothing.
-use Prim.Native.Nat.{ℕ, _+_, _-_, _≤_}
+use Prim.Native.Nat.{ℕ, _-_, _≤_}
 use mathlib.Core.Path.{_≡_, refl, _∙_, sym, ap, ap₂}
 use mathlib.Core.Bool.{Bool, true, false, cond}
 use mathlib.Core.List.{List, [], _∷_, _++_, map}
@@ -21,7 +21,8 @@ use Rattle.field.specs.Field.{forbidden, newRp, ownRp, number, codeKind, drugSe
 use Rattle.field.specs.declared.Rule.{Rule}
 use Rattle.field.specs.declared.Sofar.{Sofar}
 use Rattle.row.specs.Table.{mark, onlyWith, drugCodeNeed, nameNeed, typed, rules111, rules181, rules201, rulesFrom, rulesOf, tableOf}
-use Rattle.printed.specs.Printed.{noField, dateField}
+use Rattle.laid.specs.Laid.{noField, textOr, Laid, textBytes, partBytes}
+use Rattle.printed.specs.Printed.{dateField}
 use Rattle.printed.specs.declared.Piece.{Piece}
 use Rattle.record.specs.Line.{readParts}
 use Rattle.record.specs.declared.Place.{Place}
@@ -32,8 +33,8 @@ use Rattle.record.specs.declared.Record.the-variants.{Issue, Rp, Usage, Supplem
 use Rattle.record.specs.declared.Answer.the-variants.{Refused}
 use Rattle.held.specs.Held.{lentText, lentHeld, optional, usageValue, supplementValue, print, parts, printRecord}
 use Rattle.held.proofs.Record.{texts}
-use Rattle.entry.specs.Entry.{kindOf, numberOf, fromOf, toOf, optionalPart, partList, textOr, numberIn, entryOf}
-use Rattle.entry.specs.Code.Judge.{partsOf, numberFor, Laid, laidIn, textBytes, partBytes, partsFrom, kindMark, partWrong, wrongFrom, wrongTyped, wrongIn}
+use Rattle.entry.specs.Entry.{kindOf, numberOf, fromOf, toOf, optionalPart, partList, numberIn, entryOf}
+use Rattle.entry.specs.Code.Judge.{partsOf, numberFor, laidIn, partsFrom, kindMark, partWrong, wrongFrom, wrongTyped, wrongIn}
 use Rattle.entry.specs.declared.Entry.{Entry}
 use Rattle.entry.proofs.Bridge.{some-field, join-more, firstWrong, typed-wrong, kept-wrong}
 use Rattle.entry.proofs.Bridge as bridge
@@ -51,7 +52,7 @@ own-bytes f = take-append-seam f (replicate (24 - length f) 0)
 
 -- a text in the lent bytes,
 pub text-bytes : (lent : List ℕ) (p : Place) → textOr lent noField (p .from) (p .to) ≡ lentText lent p
-unfolding textOr lentText
+unfolding lentText
 text-bytes lent p = refl
 
 -- a text of no byte,

@@ -17,7 +17,8 @@ use Rattle.field.specs.Field.{readField}
 use Rattle.field.specs.declared.Rule.{Rule}
 use Rattle.field.specs.declared.Sofar.{Sofar}
 use Rattle.row.specs.Table.{kindField, codeField, rulesFrom, keptRule}
-use Rattle.entry.specs.Code.Judge.{Laid, wrongAt, wrongFrom, upto, commaFrom, textsWrong}
+use Rattle.laid.specs.Laid.{Laid}
+use Rattle.entry.specs.Code.Judge.{wrongAt, wrongFrom, upto, commaFrom, textsWrong}
 
 -- ---- the fields of a typed record
 -- the kind and the drug code are among the first five

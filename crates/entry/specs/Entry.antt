@@ -3,9 +3,8 @@
 use Prim.Native.Nat.{ℕ, _-_}
 use mathlib.Core.Bool.{Bool, cond}
 use mathlib.Core.List.{List, [], _∷_, _++_, map}
-use lib.Dec.{eqb, leb}
+use lib.Dec.{eqb}
 use lib.ListN.{length, replicate}
-use lib.Seq.{slice}
 use Rattle.number.specs.Print.{printAmount}
 use Rattle.supplement.specs.declared.Supplement.{Supplement}
 use Rattle.field.specs.declared.Sofar.{Sofar}
@@ -85,10 +84,6 @@ ownOf (Kept x) = []
 -- Parts in ten places.
 abbrev pub inTen : List Part → List Part
 inTen ps = ps ++ replicate (10 - length ps) (digits 0)
-
--- A text in the lent bytes; of a place outside them, `none`.
-unfoldable pub textOr : List ℕ → List ℕ → ℕ → ℕ → List ℕ
-textOr lent none from to = cond (leb from to) (cond (leb to (length lent)) (slice from to lent) none) none
 
 -- The number of a refusal, 0 where a record is taken.
 abbrev pub numberIn : Answer → ℕ

@@ -1,6 +1,9 @@
 // A record as the parts of the line that it is written as, and what the reader would say of it.
 use field::Rule;
 use field::Sofar;
+use laid::NUMBER;
+use laid::OWN;
+use laid::TEXT;
 use printed::Piece;
 use record::Kept;
 use record::Record;
@@ -15,22 +18,16 @@ use row::Rules;
 ghost use mathlib.Core.Path.{_≡_};
 ghost use mathlib.Core.List.{[]};
 ghost use Prim.Native.Nat.{_≤_};
-ghost use lib.ListN.{length, take};
-ghost use Rattle.printed.specs.Printed.{noField, piece};
+ghost use lib.ListN.{length};
+ghost use Rattle.laid.specs.Laid.{noField, textOr, laid};
+ghost use Rattle.printed.specs.Printed.{piece};
 ghost use Rattle.field.specs.Field.{readField};
 ghost use Rattle.line.specs.Fields.{split};
 ghost use Rattle.schedule.specs.Code.Kept.{mayJoin};
 ghost use Rattle.record.specs.declared.Record.the-variants.{Issue, Rp, Usage, Supplement as Supply, Drug, Kept as KeptRecord};
 ghost use Rattle.held.specs.Held.{usageValue, supplementValue, print};
-ghost use Rattle.entry.specs.Entry.{kindOf, optionalPart, textOr, entryOf};
-ghost use Rattle.entry.specs.Code.Judge.{partsOf, keptNumber, laid, kindMark, tableBy, numberWrong, partWrong, wrongTyped, commaFrom, textsWrong, wrongIn};
-
-// What a part of the line is: a number's digits, a text in the bytes that are lent beside the record, or the characters of the record's own.
-pub const NUMBER: u8 = 0;
-
-pub const TEXT: u8 = 1;
-
-pub const OWN: u8 = 2;
+ghost use Rattle.entry.specs.Entry.{kindOf, optionalPart, entryOf};
+ghost use Rattle.entry.specs.Code.Judge.{partsOf, keptNumber, kindMark, tableBy, numberWrong, partWrong, wrongTyped, commaFrom, textsWrong, wrongIn};
 
 // The number with which the reader would refuse the record, 0 where it takes it; and the parts of its line, as many as it has, in arrays of plain
 // numbers, which can be lent: what each is, its number, where its text begins and ends. `own` are the characters of the one part that has its own.
@@ -240,19 +237,6 @@ fn parts(r: Record) -> Entry
     }
 }
 
-// A text in the lent bytes; a place outside them is `none`.
-pub fn text<'a>(lent: &'a [u8], none: &'a [u8], from: usize, to: usize) -> &'a [u8]
-    ensures { λ r. ⌜ now r ≡ textOr (now (lent .entry)) (now (none .entry)) from to ⌝ }
-{
-    if to < from {
-        return none;
-    }
-    if lent.len() < to {
-        return none;
-    }
-    &lent[from..to]
-}
-
 // ---- what the reader would say
 
 // What is wrong with a number: it is judged as it is held, without its digits.
@@ -273,7 +257,7 @@ fn wrong_place(c: Sofar, r: Rule, lent: &[u8], from: usize, to: usize) -> u8
     ensures { λ w. ⌜ w ≡ readField (mayJoin (c .month) (c .schedule)) c r (textOr (now (lent .entry)) noField from to) .number ⌝ }
 {
     let none = [0; 1];
-    field::read(c, r, text(lent, &none, from, to)).number
+    field::read(c, r, laid::text(lent, &none, from, to)).number
 }
 
 // What is wrong with a part, by its rule.
@@ -314,7 +298,7 @@ fn rules_by(n: u16, mark: u8, lent: &[u8], from: usize, to: usize) -> Rules
 {
     let none = [0; 1];
     let kind = [mark];
-    row::rules_of(n, &kind, text(lent, &none, from, to))
+    row::rules_of(n, &kind, laid::text(lent, &none, from, to))
 }
 
 // A typed record, which has as many fields as its table: the first wrong field, 0 where there is none.
@@ -394,7 +378,7 @@ fn wrong_texts(c: Sofar, lent: &[u8], from: usize, to: usize) -> u8
     ensures { λ n. ⌜ n ≡ textsWrong (mayJoin (c .month) (c .schedule)) c (split (textOr (now (lent .entry)) noField from to)) ⌝ }
 {
     let none = [0; 1];
-    wrong_text(c, text(lent, &none, from, to))
+    wrong_text(c, laid::text(lent, &none, from, to))
 }
 
 // What is wrong with a record, by its number and its parts.
@@ -420,16 +404,6 @@ fn wrong(
     wrong_texts(c, lent, from[1], to[1])
 }
 
-// The first n bytes, or all where there are fewer.
-pub fn first(s: &[u8], n: usize) -> &[u8]
-    ensures { λ r. ⌜ now r ≡ take n (now (s .entry)) ⌝ }
-{
-    if s.len() < n {
-        return s;
-    }
-    &s[0..n]
-}
-
 // A record, whose texts lie in lent bytes, after what the records before leave.
 pub fn of(c: Sofar, r: Record, lent: &[u8]) -> Entry
     ensures { λ e. ⌜ e ≡ entryOf (mayJoin (c .month) (c .schedule)) c (now (lent .entry)) r ⌝ }
@@ -449,7 +423,7 @@ pub fn of(c: Sofar, r: Record, lent: &[u8]) -> Entry
         &numbers,
         &from,
         &to,
-        first(&own, n),
+        laid::first(&own, n),
     );
     e.wrong = w;
     e

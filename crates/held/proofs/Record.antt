@@ -24,6 +24,7 @@ use Rattle.record.specs.declared.Place.{Place}
 use Rattle.record.specs.declared.Record.{Record}
 use Rattle.record.specs.declared.Answer.the-variants.{Took}
 use Rattle.record.proofs.Stands.{stands, all-stand, after-first}
+use Rattle.laid.specs.Laid.{textOr}
 use Rattle.held.specs.Held.{text, heldBy, held, lentText, lentHeld, print, parts, printRecord}
 use Rattle.held.proofs.Field.{number-back, optional-back, amount-back, date-back, usage-back, supplement-back}
 use Rattle.held.proofs.Row.{placed, by-places, Fine}
@@ -144,7 +145,7 @@ field-ends (f ∷ g ∷ fs) (suc k) l = omega (arith, length-append f (0x2c ∷ 
 
 -- a place inside is read alike
 inside : (s : List ℕ) (p : Place) → p .from ≤ p .to → p .to ≤ length s → lentText s p ≡ textAt s p
-unfolding lentText textAt
+unfolding lentText textOr textAt
 inside s p l m = rw (le-leb (p .from) (p .to) l, le-leb (p .to) (length s) m)
 
 module _ (s : List ℕ) (at : ℕ) (fs : List (List ℕ)) (rest : List ℕ) (h : drop at s ≡ join fs ++ rest) where

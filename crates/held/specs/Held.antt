@@ -4,9 +4,7 @@
 use Prim.Native.Nat.{ℕ}
 use mathlib.Core.Bool.{cond}
 use mathlib.Core.List.{List, [], _∷_, map}
-use lib.Dec.{eqb, leb}
-use lib.ListN.{length}
-use lib.Seq.{slice}
+use lib.Dec.{eqb}
 use Rattle.cells.specs.Text.{bytes}
 use Rattle.line.specs.Frame.{file}
 use Rattle.line.specs.Fields.{split, join}
@@ -14,7 +12,8 @@ use Rattle.number.specs.Print.{printNumber, printAmount}
 use Rattle.date.specs.declared.Date.{Date}
 use Rattle.usage.specs.declared.Instruction.{Instruction}
 use Rattle.supplement.specs.declared.Supplement.{Supplement}
-use Rattle.printed.specs.Printed.{noField, dateField, usageField, supplementField}
+use Rattle.laid.specs.Laid.{noField, textOr}
+use Rattle.printed.specs.Printed.{dateField, usageField, supplementField}
 use Rattle.row.specs.Table.{typed}
 use Rattle.record.specs.Record.{textAt}
 use Rattle.record.specs.declared.Place.{Place}
@@ -92,7 +91,7 @@ held s r = heldBy (textAt s) r
 
 -- A text in the bytes that a caller lends beside a record: a place outside them is no text.
 unfoldable pub lentText : List ℕ → Place → List ℕ
-lentText lent p = cond (leb (p .from) (p .to)) (cond (leb (p .to) (length lent)) (slice (p .from) (p .to) lent) noField) noField
+lentText lent p = textOr lent noField (p .from) (p .to)
 
 -- What a record holds whose texts lie in lent bytes.
 abbrev pub lentHeld : List ℕ → Record → Held

@@ -26,7 +26,8 @@ use Rattle.supplement.specs.declared.Supplement.{Supplement}
 use Rattle.supplement_writer.specs.Code.Write as supplements
 use Rattle.supplement_writer.proofs.Laws as supplements-laws
 use Rattle.supplement_writer.proofs.Writing as supplements-writing
-use Rattle.printed.specs.Printed.{noField, dateField, readsAs, usageField, supplementField}
+use Rattle.laid.specs.Laid.{noField}
+use Rattle.printed.specs.Printed.{dateField, readsAs, usageField, supplementField}
 use Rattle.printed.proofs.Held.{long, held, none, reads}
 
 -- ---- dates

@@ -2,9 +2,10 @@
 -- Assumes nothing.
 use Prim.Native.Nat.{ℕ, _-_}
 use mathlib.Core.Bool.{Bool, false, cond}
-use mathlib.Core.List.{List, [], _∷_, _++_}
+use mathlib.Core.List.{List, _++_}
 use lib.ListN.{length, replicate}
 use Rattle.cells.specs.Test.{Answer, took, refused}
+use Rattle.laid.specs.Laid.{noField}
 use Rattle.date.specs.Date.{isDate}
 use Rattle.date.specs.Print.{printDate}
 use Rattle.date.specs.declared.Date.{Date}
@@ -15,10 +16,6 @@ use Rattle.supplement.specs.Supplement.{readSupplement}
 use Rattle.supplement.specs.declared.Supplement.{Supplement}
 use Rattle.supplement_writer.specs.Code.Write.{raw as supplementText, agrees}
 use Rattle.printed.specs.declared.Piece.{Piece}
-
--- A field that no rule takes: what can't be written is written so, and then refused by the rule of its field.
-abbrev pub noField : List ℕ
-noField = 0 ∷ []
 
 -- A date in its own style.
 unfoldable pub dateField : Date → List ℕ

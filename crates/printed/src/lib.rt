@@ -7,7 +7,8 @@ ghost use mathlib.Core.List.{_∷_};
 ghost use Prim.Native.Nat.{_+_, _<_, _≤_};
 ghost use lib.ListN.{length};
 ghost use Rattle.number.specs.Print.{printNumber, decimals, printAmount};
-ghost use Rattle.printed.specs.Printed.{noField, dateField, usageField, supplementField, piece};
+ghost use Rattle.laid.specs.Laid.{noField};
+ghost use Rattle.printed.specs.Printed.{dateField, usageField, supplementField, piece};
 ghost use Rattle.printed.specs.Code.Put.{more};
 
 // At most 24 characters: how many they are, they, and 0 bytes after them.

@@ -1,13 +1,13 @@
 -- What each call answers, by the tests that the code makes.
 -- Assumes nothing.
 use Prim.Native.Nat.{ℕ, _+_, _≤_, _<_, min}
-use mathlib.Core.Path.{_≡_, _∙_, sym, ap, ap₂}
+use mathlib.Core.Path.{_≡_, refl, _∙_, sym, ap, ap₂}
 use mathlib.Core.Bool.{Bool, true, false, cond}
 use mathlib.Core.List.{List, [], _∷_}
 use native.Mathlib.Omega.{arith}
-use borrow.Author.Tests.{eq-eqb, ne-eqb, leb-true, le-leb, lt-leb}
-use lib.Dec.{eqb, leb}
-use lib.ListN.{length, set, length-append}
+use borrow.Author.Tests.{eq-eqb, ne-eqb, le-leb, lt-leb}
+use lib.Dec.{eqb}
+use lib.ListN.{length, set, replicate, length-append}
 use lib.Seq.{sets}
 use Rattle.cells.specs.Text.{bytes}
 use Rattle.supplement.specs.declared.Supplement.{Supplement}
@@ -18,26 +18,45 @@ use Rattle.record.specs.Line.{readParts}
 use Rattle.record.specs.declared.Answer.{Answer}
 use Rattle.record.specs.declared.Record.{Record}
 use Rattle.held.specs.Held.{lentHeld, parts, printRecord}
+use Rattle.laid.specs.Laid.{Laid, laid, partBytes, textBytes, separatorOf, lineFrom, lineOf, roomFor, Put, putParts}
+use Rattle.laid.proofs.Laws.{fits-in, no-room, left-out, some-room, put-in}
 use Rattle.entry.specs.Entry.{partList, numberIn, entryOf}
 use Rattle.entry.specs.Code.Judge.{laidIn}
 use Rattle.entry.specs.declared.Entry.{Entry}
 use Rattle.entry.proofs.Laws.{few, anywhere, refused-some}
 use Rattle.writer.specs.Writer.{refuses, putAt, room, ended, putLine, onAnswer, unopened, openBuffer, putRecord, closeBuffer}
-use Rattle.writer.specs.Code.Put.{lineOf, roomFor}
 use Rattle.writer.specs.declared.State.{State}
-use Rattle.writer.proofs.Line.{on-number, line-is, room-is, put-is}
+use Rattle.writer.proofs.Line.{on-number, entryLine, line-is, room-is, put-is}
 use Rattle.writer.proofs.WriteBack.{done}
 
 -- ---- opening
-pub open-short : (out : List ℕ) → min (length out) 16384 < 9 → refuses out unopened 33 0 ≡ openBuffer out
-unfolding openBuffer room bytes
-open-short out h = let e : leb (0 + (6 + 3)) (min (length out) 16384) ≡ false = lt-leb 9 (min (length out) 16384) h in rw e
+-- the version line, of one part
+abbrev version : Laid
+version = laid (replicate 10 2) (replicate 10 0) (replicate 10 0) (replicate 10 0) (bytes "JAHIS5")
 
-pub open-put : (out : List ℕ) → 9 ≤ min (length out) 16384 → done 8 false start (sets out 0 (ended (bytes "JAHIS5"))) ≡ openBuffer out
-unfolding openBuffer room bytes
-open-put out h =
-    let e : leb (0 + (6 + 3)) (min (length out) 16384) ≡ true = le-leb 9 (min (length out) 16384) h in
-    rw (e, put-is out 0 (ended (bytes "JAHIS5")) (omega arith))
+version-line : lineOf [] version 1 ≡ ended (bytes "JAHIS5")
+unfolding lineFrom partBytes textBytes separatorOf
+version-line = refl
+
+module _ (out : List ℕ) (w : Put) (q : w ≡ putParts out 0 1 [] version) where
+  version-room : roomFor (length out) 0 (lineOf [] version 1) ≡ room out 0 (bytes "JAHIS5")
+  version-room = ap (roomFor (length out) 0) version-line ∙ room-is out 0 (bytes "JAHIS5")
+
+  pub open-short : w .end ≡ 0 → refuses (w .buffer) unopened 33 0 ≡ openBuffer out
+  unfolding openBuffer
+  open-short h =
+      let z : room out 0 (bytes "JAHIS5") ≡ false = sym version-room ∙ no-room out 0 1 [] version (omega arith) w q h in
+      rw z (ap (λ (b : List ℕ). refuses b unopened 33 0) (left-out out 0 1 [] version (omega arith) w q h))
+
+  pub open-put : (w .end ≡ 0 → ⊥) → done (w .end) false start (w .buffer) ≡ openBuffer out
+  unfolding openBuffer bytes
+  open-put h =
+      let r = some-room out 0 1 [] version (omega arith) w q h in
+      let z : room out 0 (bytes "JAHIS5") ≡ true = sym version-room ∙ r in
+      rw z
+      (ap (λ (x : Put). done (x .end) false start (x .buffer)) (put-in out 0 1 [] version (omega arith) w q h)
+      ∙ ap (λ (l : List ℕ). done (0 + length l) false start (sets out 0 l)) version-line
+      ∙ ap (done 8 false start) (put-is out 0 (ended (bytes "JAHIS5")) (rw version-line at (fits-in (length out) 0 (lineOf [] version 1) r))))
 
 -- ---- closing
 module _ (out : List ℕ) (t : State) where
@@ -94,32 +113,28 @@ module _ (out : List ℕ) (t : State) (r : Record) (lent : List ℕ) where
     put-wrong h = let z : eqb (e .wrong) 0 ≡ false = ne-eqb (e .wrong) 0 h in sym (by-wrong ∙ rw z)
 
     -- the entry's line is the record's
-    same-line : lineOf lent e ≡ ended line
-    same-line = ap (lineOf lent) q ∙ line-is joins (t .sofar) lent r
+    same-line : entryLine lent e ≡ ended line
+    same-line = ap (entryLine lent) q ∙ line-is joins (t .sofar) lent r
 
-    same-room : roomFor (length out) (t .at) lent (laidIn e) (e .count) ≡ room out (t .at) line
-    same-room = room-is out lent (t .at) (laidIn e) (e .count) line same-line
+    same-room : roomFor (length out) (t .at) (entryLine lent e) ≡ room out (t .at) line
+    same-room = ap (roomFor (length out) (t .at)) same-line ∙ room-is out (t .at) line
 
-    module _ (w : e .wrong ≡ 0) where
-      right : putRecord out t r lent ≡ putLine out t line (after (t .sofar) r)
-      right = let z : eqb (e .wrong) 0 ≡ true = eq-eqb (e .wrong) 0 w in by-wrong ∙ rw z
+    module _ (right : e .wrong ≡ 0) (w : Put) (g : w ≡ putParts out (t .at) (e .count) lent (laidIn e)) where
+      by-room : putRecord out t r lent ≡ putLine out t line (after (t .sofar) r)
+      by-room = let z : eqb (e .wrong) 0 ≡ true = eq-eqb (e .wrong) 0 right in by-wrong ∙ rw z
 
-      pub put-full : roomFor (length out) (t .at) lent (laidIn e) (e .count) ≡ false → refuses out t 33 0 ≡ putRecord out t r lent
-      put-full h = let z : room out (t .at) line ≡ false = sym same-room ∙ h in sym (right ∙ rw z)
+      pub put-full : w .end ≡ t .at → refuses (w .buffer) t 33 0 ≡ putRecord out t r lent
+      put-full h =
+          let z : room out (t .at) line ≡ false = sym same-room ∙ no-room out (t .at) (e .count) lent (laidIn e) count-most w g h in
+          ap (λ (b : List ℕ). refuses b t 33 0) (left-out out (t .at) (e .count) lent (laidIn e) count-most w g h)
+          ∙ sym (by-room ∙ rw z)
 
-      module _ (h : roomFor (length out) (t .at) lent (laidIn e) (e .count) ≡ true) where
-        long : length (lineOf lent e) ≡ length line + 2
-        long = ap length same-line ∙ length-append line (0x0d ∷ 0x0a ∷ [])
-
-        pub put-fits : t .at + length (lineOf lent e) ≤ length out
-        unfolding room
-        put-fits =
-            let z : t .at + (length line + 3) ≤ min (length out) 16384 = leb-true _ _ (sym same-room ∙ h) in
-            omega (arith, z, long)
-
-        pub put-put : done (t .at + length (lineOf lent e)) false (after (t .sofar) r) (sets out (t .at) (lineOf lent e)) ≡ putRecord out t r lent
-        put-put =
-            let z : room out (t .at) line ≡ true = sym same-room ∙ h in
-            ap₂ (λ (n : ℕ) (b : List ℕ). done (t .at + n) false (after (t .sofar) r) b) long
-            (put-is out (t .at) (lineOf lent e) put-fits ∙ ap (putAt out (t .at)) same-line)
-            ∙ sym (right ∙ rw z)
+      pub put-put : (w .end ≡ t .at → ⊥) → done (w .end) false (after (t .sofar) r) (w .buffer) ≡ putRecord out t r lent
+      put-put h =
+          let k = some-room out (t .at) (e .count) lent (laidIn e) count-most w g h in
+          let z : room out (t .at) line ≡ true = sym same-room ∙ k in
+          let long : length (entryLine lent e) ≡ length line + 2 = ap length same-line ∙ length-append line (0x0d ∷ 0x0a ∷ []) in
+          ap (λ (x : Put). done (x .end) false (after (t .sofar) r) (x .buffer)) (put-in out (t .at) (e .count) lent (laidIn e) count-most w g h)
+          ∙ ap₂ (λ (n : ℕ) (b : List ℕ). done (t .at + n) false (after (t .sofar) r) b) long
+          (put-is out (t .at) (entryLine lent e) (fits-in (length out) (t .at) (entryLine lent e) k) ∙ ap (putAt out (t .at)) same-line)
+          ∙ sym (by-room ∙ rw z)

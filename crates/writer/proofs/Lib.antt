@@ -2,6 +2,4 @@ pub mod WriteBack
 pub mod ReadBack
 pub mod Line
 pub mod Laws
-pub mod Along
-pub mod Figures
 pub mod Calls

@@ -1,15 +1,14 @@
 -- A record's line, put part by part, is the line that the record is written as.
 -- Assumes nothing.
-use Prim.Native.Nat.{ℕ, zero, suc, _+_, _-_, _≤_, _<_, min}
+use Prim.Native.Nat.{ℕ, zero, suc, _+_, _≤_, min}
 use mathlib.Core.Path.{_≡_, refl, _∙_, sym, ap}
 use mathlib.Core.Bool.{Bool, true, false, cond}
 use mathlib.Core.List.{List, [], _∷_, _++_, append-assoc}
 use native.Mathlib.Omega.{arith}
-use borrow.Author.Tests.{eq-eqb, ne-eqb, leb-true, leb-false, le-leb, lt-leb}
+use borrow.Author.Tests.{eq-eqb, ne-eqb}
 use lib.Dec.{eqb, leb}
 use lib.ListN.{length, take, drop, length-append}
 use lib.Seq.{sets, sets-eq}
-use Rattle.cells.proofs.Split.{split as cases}
 use Rattle.line.specs.Fields.{join}
 use Rattle.supplement.specs.declared.Supplement.{Supplement}
 use Rattle.field.specs.declared.Sofar.{Sofar}
@@ -19,10 +18,11 @@ use Rattle.record.specs.declared.Answer.{Answer}
 use Rattle.record.specs.declared.Answer.the-variants.{Took, Refused}
 use Rattle.held.specs.Held.{lentHeld, printRecord}
 use Rattle.entry.specs.Entry.{partList, numberIn, entryOf}
-use Rattle.entry.specs.Code.Judge.{Laid, laidIn, partsOf, partAt, partsFrom}
+use Rattle.laid.specs.Laid.{Laid, partAt, separatorOf, lineFrom, lineOf, roomFor}
+use Rattle.entry.specs.Code.Judge.{laidIn, partsOf, partsFrom}
+use Rattle.entry.specs.declared.Entry.{Entry}
 use Rattle.entry.proofs.Laws.{line-of, few}
 use Rattle.writer.specs.Writer.{refuses, putAt, room, ended, putLine, onAnswer}
-use Rattle.writer.specs.Code.Put.{separatorOf, lineFrom, lineOf, roomFor}
 use Rattle.writer.specs.declared.State.{State}
 
 -- A record is put where the reader's number for it is 0, and else refused with that number.
@@ -43,26 +43,25 @@ line-from lent p (suc n) i =
     (λ k. partAt lent p i ++ cond (e k) 0x0d 0x2c ∷ line-from lent p n (i + 1) k)
     ∙ sym (append-assoc (partAt lent p i) (0x2c ∷ join (partsFrom lent p (suc n) (i + 1))) (0x0d ∷ 0x0a ∷ []))
 
-line-all : (lent : List ℕ) (p : Laid) (n : ℕ) → 1 ≤ n → lineFrom lent p n 0 ≡ ended (join (partsFrom lent p n 0))
+line-all : (lent : List ℕ) (p : Laid) (n : ℕ) → 1 ≤ n → lineOf lent p n ≡ ended (join (partsFrom lent p n 0))
 line-all lent p zero l = absurd (omega arith)
 line-all lent p (suc n) l = line-from lent p n 0
 
--- The line of a record's entry is the one that the record is written as.
-pub line-is : (joins : Supplement → Bool) (c : Sofar) (lent : List ℕ) (r : Record) → lineOf lent (entryOf joins c lent r) ≡ ended (printRecord (lentHeld lent r))
+-- The line of an entry's parts,
+abbrev pub entryLine : List ℕ → Entry → List ℕ
+entryLine lent e = lineOf lent (laidIn e) (e .count)
+
+-- which is the one that the record is written as.
+pub line-is : (joins : Supplement → Bool) (c : Sofar) (lent : List ℕ) (r : Record) → entryLine lent (entryOf joins c lent r) ≡ ended (printRecord (lentHeld lent r))
 unfolding entryOf
 line-is joins c lent r = line-all lent (laidIn (partsOf r)) (length (partList r)) (few r .0) ∙ ap ended (line-of lent r)
 
--- Where there is room for it, there is room for that line.
-pub room-is : (out lent : List ℕ) (at : ℕ) (p : Laid) (count : ℕ) (l : List ℕ) → lineFrom lent p count 0 ≡ ended l → roomFor (length out) at lent p count ≡ room out at l
+-- Where there is room for a line with its CR LF, there is room for the line.
+pub room-is : (out : List ℕ) (at : ℕ) (l : List ℕ) → roomFor (length out) at (ended l) ≡ room out at l
 unfolding roomFor room
-room-is out lent at p count l h =
-    let n : length (lineFrom lent p count 0) ≡ length l + 2 = ap length h ∙ length-append l (0x0d ∷ 0x0a ∷ []) in
-    cases (leb (at + (length l + 3)) (min (length out) 16384))
-    (λ b. let k : at + (length l + 3) ≤ min (length out) 16384 = leb-true _ _ b in
-    simp (b, n, lt-leb (min (length out) 16384) at (omega arith), le-leb (length l + 2) (min (length out) 16384 - at - 1) (omega arith)))
-    (λ b. let k : min (length out) 16384 < at + (length l + 3) = leb-false _ _ b in
-    cases (leb (min (length out) 16384) at) (λ d. simp (b, d))
-    (λ d. let m : at < min (length out) 16384 = leb-false _ _ d in simp (b, d, n, lt-leb (length l + 2) (min (length out) 16384 - at - 1) (omega arith))))
+room-is out at l =
+    let n : length (ended l) + 1 ≡ length l + 3 = omega (arith, length-append l (0x0d ∷ 0x0a ∷ [])) in
+    ap (λ (k : ℕ). leb (at + k) (min (length out) 16384)) n
 
 -- Bytes that fit, put one by one, are put at their place.
 pub put-is : (out : List ℕ) (at : ℕ) (l : List ℕ) → at + length l ≤ length out → sets out at l ≡ putAt out at l

@@ -1,3 +1,2 @@
 pub mod Writer
 pub mod Files
-pub mod Code

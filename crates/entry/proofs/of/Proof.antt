@@ -2,7 +2,8 @@
 use mathlib.Core.Path.{_∙_}
 use lib.ListN.{getD}
 use Rattle.schedule.specs.Code.Kept.{mayJoin}
-use Rattle.entry.specs.Code.Judge.{laid, wrongIn}
+use Rattle.laid.specs.Laid.{laid}
+use Rattle.entry.specs.Code.Judge.{wrongIn}
 use Rattle.entry.proofs.Laws.{as-entry}
 use borrow.Author.Needs.{needs}
 use Rattle.entry.proofs.of.Statement.{statement}

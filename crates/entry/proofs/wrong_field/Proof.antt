@@ -9,9 +9,8 @@ use lib.ListN.{getD}
 use Rattle.row.specs.Table.{kindField, codeField}
 use Rattle.row.specs.declared.Rules.{Rules}
 use Rattle.schedule.specs.Code.Kept.{mayJoin}
-use Rattle.printed.specs.Printed.{noField}
-use Rattle.entry.specs.Entry.{textOr}
-use Rattle.entry.specs.Code.Judge.{Laid, laid, kindMark, tableBy, tableIn, wrongFrom, wrongTyped}
+use Rattle.laid.specs.Laid.{noField, textOr, Laid, laid}
+use Rattle.entry.specs.Code.Judge.{kindMark, tableBy, tableIn, wrongFrom, wrongTyped}
 use Rattle.entry.proofs.Walk.{kind-most, code-most, few-rules, wrong-here, wrong-later}
 use Rattle.entry.proofs.wrong_field.Statement.{statement}
 use Rattle.entry.proofs.wrong_field.Tie as tie

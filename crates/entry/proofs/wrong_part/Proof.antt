@@ -3,7 +3,8 @@ use borrow.Author.Needs.{needs}
 use Rattle.entry.proofs.wrong_part.Statement.{statement}
 use Rattle.entry.proofs.wrong_part.Tie as tie
 use borrow.Author.Tests.{eq-eqb, ne-eqb}
-use Rattle.entry.specs.Code.Judge.{textBytes, partWrong}
+use Rattle.laid.specs.Laid.{textBytes}
+use Rattle.entry.specs.Code.Judge.{partWrong}
 
 wrong-number-requires : tie.Need-wrong-number-requires
 wrong-number-requires c κs = search needs

@@ -6,7 +6,6 @@ use mathlib.Core.List.{List, [], _∷_, map}
 use lib.Dec.{eqb, leb, ltb}
 use lib.ListN.{length, getD, take, drop}
 use Rattle.line.specs.Fields.{split}
-use Rattle.number.specs.Print.{printNumber}
 use Rattle.supplement.specs.declared.Supplement.{Supplement}
 use Rattle.order.specs.Code.Next.{follow}
 use Rattle.field.specs.Field.{ordered, readField}
@@ -14,10 +13,11 @@ use Rattle.field.specs.declared.Rule.{Rule}
 use Rattle.field.specs.declared.Sofar.{Sofar}
 use Rattle.row.specs.Table.{typed, kindField, codeField, rulesFrom, keptRule, noRule, tableOf}
 use Rattle.row.specs.declared.Rules.{Rules}
-use Rattle.printed.specs.Printed.{noField, piece}
+use Rattle.laid.specs.Laid.{noField, textOr, Laid, laid, textBytes, partAt}
+use Rattle.printed.specs.Printed.{piece}
 use Rattle.record.specs.declared.Record.{Record}
 use Rattle.held.specs.Held.{lentHeld}
-use Rattle.entry.specs.Entry.{kindOf, numberOf, fromOf, toOf, partList, ownOf, inTen, textOr}
+use Rattle.entry.specs.Entry.{kindOf, numberOf, fromOf, toOf, partList, ownOf, inTen}
 use Rattle.entry.specs.declared.Entry.{Entry}
 
 -- The parts of a record, of which nothing is said yet.
@@ -41,32 +41,9 @@ keptNumber n = cond (typed n) 0 n
 abbrev pub numberFor : Record → ℕ
 numberFor r = lentHeld [] r .number
 
--- Parts in arrays of plain numbers: what each is, its number, where its text begins and ends; and the characters of the record's own.
-pub record Laid : Type 0 where
-  pub kinds : List ℕ
-  pub numbers : List ℕ
-  pub from : List ℕ
-  pub to : List ℕ
-  pub own : List ℕ
-
-abbrev pub laid : List ℕ → List ℕ → List ℕ → List ℕ → List ℕ → Laid
-laid kinds numbers from to own = record { kinds = kinds; numbers = numbers; from = from; to = to; own = own }
-
--- Those of an entry.
+-- The parts of an entry, in their arrays.
 abbrev pub laidIn : Entry → Laid
 laidIn e = laid (e .kinds) (e .numbers) (e .from) (e .to) (take (e .own .length) (e .own .bytes))
-
--- The bytes of a part that is no number.
-unfoldable pub textBytes : List ℕ → List ℕ → ℕ → ℕ → ℕ → List ℕ
-textBytes lent own kind from to = cond (eqb kind 1) (textOr lent noField from to) own
-
--- The bytes of a part.
-unfoldable pub partBytes : List ℕ → List ℕ → ℕ → ℕ → ℕ → ℕ → List ℕ
-partBytes lent own kind number from to = cond (eqb kind 0) (printNumber number) (textBytes lent own kind from to)
-
--- Those of the part with k before it.
-abbrev pub partAt : List ℕ → Laid → ℕ → List ℕ
-partAt lent p k = partBytes lent (p .own) (getD (p .kinds) k 0) (getD (p .numbers) k 0) (getD (p .from) k 0) (getD (p .to) k 0)
 
 -- k parts that have i before them.
 unfoldable pub partsFrom : List ℕ → Laid → ℕ → ℕ → List (List ℕ)

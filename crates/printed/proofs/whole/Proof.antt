@@ -7,7 +7,8 @@ use native.Mathlib.Omega.{arith}
 use borrow.Author.Needs.{needs}
 use lib.ListN.{length, drop, replicate, length-set}
 use Rattle.number.specs.Print.{printNumber}
-use Rattle.printed.proofs.Digits.{width-most, lasts, printed-lasts, one-more, no-more}
+use Rattle.laid.proofs.Numerals.{lasts, printed-lasts}
+use Rattle.printed.proofs.Digits.{width-most, one-more, no-more}
 use Rattle.printed.proofs.Fields.{drop-zeros}
 use Rattle.printed.proofs.whole.Statement.{statement}
 use Rattle.printed.proofs.whole.Tie as tie

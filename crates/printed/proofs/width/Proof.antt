@@ -5,7 +5,8 @@ use mathlib.Core.Path.{_≡_, _∙_, ap}
 use native.Mathlib.Omega.{arith}
 use lib.ListN.{length}
 use Rattle.number.specs.Print.{printNumber}
-use Rattle.printed.proofs.Digits.{count, count-none, count-more, width-of, width-most}
+use Rattle.laid.proofs.Numerals.{count, count-none, count-more, width-of}
+use Rattle.printed.proofs.Digits.{width-most}
 use Rattle.printed.proofs.width.Statement.{statement}
 use Rattle.printed.proofs.width.Tie as tie
 

@@ -1,19 +1,12 @@
 -- By the tests in their order.
-use Prim.Native.Nat.{ℕ, _+_}
 use mathlib.Core.Bool.{false}
-use mathlib.Core.List.{List}
-use mathlib.Core.Path.{_≡_, sym, ap, ap₂, _∙_}
-use native.Mathlib.Omega.{arith}
-use borrow.Author.Tests.{not-true, not-false}
+use mathlib.Core.Path.{ap, _∙_}
 use borrow.Author.Needs.{needs}
-use lib.ListN.{length, take}
-use lib.Seq.{sets}
 use Rattle.field.specs.declared.Sofar.{Sofar}
-use Rattle.entry.specs.Code.Judge.{Laid, laid}
+use Rattle.laid.specs.Laid.{laid, Put, putParts}
 use Rattle.writer.specs.declared.Told.{Told}
 use Rattle.writer.specs.Writer.{state}
-use Rattle.writer.specs.Code.Put.{lineFrom, roomFor}
-use Rattle.writer.proofs.Calls.{put-closed, count-most, put-wrong, put-full, put-fits, put-put}
+use Rattle.writer.proofs.Calls.{put-closed, put-wrong, put-full, put-put}
 use Rattle.writer.proofs.put.Statement.{statement}
 use Rattle.writer.proofs.put.Tie as tie
 
@@ -45,42 +38,27 @@ slice-aggregate-first c = let k = c .before .before .before .before .before .bef
 first-requires : tie.Need-first-requires
 first-requires c κs = search needs
 
-has-room-requires : tie.Need-has-room-requires
-has-room-requires c κs =
-    let a = c .before .before .before .before .before .before .before .before .before .before .before .before .before .before .before .before .before .before .args in
-    let e = c .before .before .before .before .before .before .before .before .before .before .before .before .before .of in
-    let x = e .result in
-    let o = c .before .before .before .before .before .before .before .before .before .before .before .before .before .before .before .if1 .left in
-    count-most (a .out .now) (a .t) (a .r) (a .lent .now) o x (e .ensures)
+put-requires : tie.Need-put-requires
+put-requires c κs = search needs
 
 refused-requires-3 : tie.Need-refused-requires-3
 refused-requires-3 c κs = search needs
 
+same-length : tie.Need-same-length
+same-length c = search needs
+
 returns-3 : tie.Need-returns-3
 returns-3 c =
-    let a = c .before .before .before .before .before .before .before .before .before .before .before .before .before .before .before .before .before .before .before .before .before .args in
-    let e = c .before .before .before .before .before .before .before .before .before .before .before .before .before .before .before .before .of in
-    let x = e .result in
-    let o = c .before .before .before .before .before .before .before .before .before .before .before .before .before .before .before .before .before .before .if1 .left in
-    let p : List ℕ → Laid = laid (x .kinds) (x .numbers) (x .from) (x .to) in
-    let f = c .before .before .before .before .before .before .before .first .ensures in
-    let w = c .before .before .before .before .before .before .before .before .before .before .before .before .before .before .if2 .left in
-    let h = c .before .before .has-room .ensures ∙ (λ i. roomFor (length (a .out .now)) (a .t .at) (a .lent .now) (p (f i)) (x .count)) in
-    ap (λ (p : Told). record { put = p; buffer = a .out .now }) (c .refused3 .ensures) ∙ put-full (a .out .now) (a .t) (a .r) (a .lent .now) o x (e .ensures) w (sym h ∙ not-true _ (c .before .if3 .taken))
-
-put-line-requires : tie.Need-put-line-requires
-put-line-requires c κs =
     let a = c .before .before .before .before .before .before .before .before .before .before .before .before .before .before .before .before .before .before .before .before .before .before .before .before .before .args in
     let e = c .before .before .before .before .before .before .before .before .before .before .before .before .before .before .before .before .before .before .before .before .of in
     let x = e .result in
     let o = c .before .before .before .before .before .before .before .before .before .before .before .before .before .before .before .before .before .before .before .before .before .before .if1 .left in
-    let p : List ℕ → Laid = laid (x .kinds) (x .numbers) (x .from) (x .to) in
-    let f = c .before .before .before .before .before .before .before .before .before .before .before .first .ensures in
     let w = c .before .before .before .before .before .before .before .before .before .before .before .before .before .before .before .before .before .before .if2 .left in
-    let h = c .before .before .before .before .before .before .has-room .ensures ∙ (λ i. roomFor (length (a .out .now)) (a .t .at) (a .lent .now) (p (f i)) (x .count)) in
-    let m : length (lineFrom (a .lent .now) (p (c .before .before .before .before .before .before .before .before .before .before .before .first .result .now)) (x .count) 0) ≡ length (lineFrom (a .lent .now) (p (take (x .own .length) (x .own .bytes))) (x .count) 0) =
-    λ i. length (lineFrom (a .lent .now) (p (f i)) (x .count) 0) in
-    (count-most (a .out .now) (a .t) (a .r) (a .lent .now) o x (e .ensures), omega (arith, m, put-fits (a .out .now) (a .t) (a .r) (a .lent .now) o x (e .ensures) w (sym h ∙ not-false _ (c .before .before .before .before .before .if3 .left))))
+    let l = c .before .before .before .before .before .put in
+    let p : Put = record { end = l .result; buffer = l .last .0 } in
+    let g = l .ensures ∙ (λ i. putParts (a .out .now) (a .t .at) (x .count) (a .lent .now) (laid (x .kinds) (x .numbers) (x .from) (x .to) (c .before .before .before .before .before .before .before .before .before .before .before .first .ensures i))) in
+    ap (λ (q : Told). record { put = q; buffer = p .buffer }) (c .refused3 .ensures)
+    ∙ put-full (a .out .now) (a .t) (a .r) (a .lent .now) o x (e .ensures) w p g (c .before .if3 .taken)
 
 after-requires : tie.Need-after-requires
 after-requires c κs = search needs
@@ -88,24 +66,22 @@ after-requires c κs = search needs
 wrote-requires : tie.Need-wrote-requires
 wrote-requires c κs = search needs
 
-same-length : tie.Need-same-length
-same-length c = search needs
+same-length-2 : tie.Need-same-length-2
+same-length-2 c = search needs
 
 returns-4 : tie.Need-returns-4
 returns-4 c =
-    let a = c .before .before .before .before .before .before .before .before .before .before .before .before .before .before .before .before .before .before .before .before .before .before .before .before .before .before .before .before .before .before .args in
-    let e = c .before .before .before .before .before .before .before .before .before .before .before .before .before .before .before .before .before .before .before .before .before .before .before .before .before .of in
+    let a = c .before .before .before .before .before .before .before .before .before .before .before .before .before .before .before .before .before .before .before .before .before .before .before .before .before .before .args in
+    let e = c .before .before .before .before .before .before .before .before .before .before .before .before .before .before .before .before .before .before .before .before .before .of in
     let x = e .result in
-    let o = c .before .before .before .before .before .before .before .before .before .before .before .before .before .before .before .before .before .before .before .before .before .before .before .before .before .before .before .if1 .left in
-    let p : List ℕ → Laid = laid (x .kinds) (x .numbers) (x .from) (x .to) in
-    let f = c .before .before .before .before .before .before .before .before .before .before .before .before .before .before .before .before .first .ensures in
-    let w = c .before .before .before .before .before .before .before .before .before .before .before .before .before .before .before .before .before .before .before .before .before .before .before .if2 .left in
-    let h = c .before .before .before .before .before .before .before .before .before .before .before .has-room .ensures ∙ (λ i. roomFor (length (a .out .now)) (a .t .at) (a .lent .now) (p (f i)) (x .count)) in
-    let k = c .before .before .before .before .put-line .ensures in
-    let b = k .0 ∙ (λ i. sets (a .out .now) (a .t .at) (lineFrom (a .lent .now) (p (f i)) (x .count) 0)) in
-    let n = k .1 ∙ (λ i. a .t .at + length (lineFrom (a .lent .now) (p (f i)) (x .count) 0)) in
-    (λ i. record { put = (c .wrote .ensures ∙ ap₂ (λ (n : ℕ) (s : Sofar). record { number = 0; own = 0; state = state n false s }) n (c .before .after .ensures)) i; buffer = b i })
-    ∙ put-put (a .out .now) (a .t) (a .r) (a .lent .now) o x (e .ensures) w (sym h ∙ not-false _ (c .before .before .before .before .before .before .before .before .before .before .if3 .left))
+    let o = c .before .before .before .before .before .before .before .before .before .before .before .before .before .before .before .before .before .before .before .before .before .before .before .if1 .left in
+    let w = c .before .before .before .before .before .before .before .before .before .before .before .before .before .before .before .before .before .before .before .if2 .left in
+    let l = c .before .before .before .before .before .before .put in
+    let p : Put = record { end = l .result; buffer = l .last .0 } in
+    let g = l .ensures ∙ (λ i. putParts (a .out .now) (a .t .at) (x .count) (a .lent .now) (laid (x .kinds) (x .numbers) (x .from) (x .to) (c .before .before .before .before .before .before .before .before .before .before .before .before .first .ensures i))) in
+    ap (λ (q : Told). record { put = q; buffer = p .buffer })
+    (c .wrote .ensures ∙ ap (λ (s : Sofar). record { number = 0; own = 0; state = state (p .end) false s }) (c .before .after .ensures))
+    ∙ put-put (a .out .now) (a .t) (a .r) (a .lent .now) o x (e .ensures) w p g (c .before .before .if3 .left)
 
 pub put-spec : {M : Type 1} → statement M
 put-spec =
@@ -118,11 +94,11 @@ put-spec =
     returns-2
     slice-aggregate-first
     first-requires
-    has-room-requires
+    put-requires
     refused-requires-3
+    same-length
     returns-3
-    put-line-requires
     after-requires
     wrote-requires
-    same-length
+    same-length-2
     returns-4)

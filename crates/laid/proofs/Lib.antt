@@ -1,0 +1,4 @@
+pub mod Numerals
+pub mod Figures
+pub mod Along
+pub mod Laws
