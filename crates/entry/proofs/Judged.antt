@@ -1,11 +1,11 @@
 -- A number judged as it is held is judged as its digits are, and the kind by which other fields go is known without them.
 -- Assumes nothing.
 use Prim.Native.Nat.{ℕ, zero, suc, _+_, _/_, _%_, _≤_, _<_}
-use mathlib.Core.Path.{_≡_, refl, _∙_, sym}
+use mathlib.Core.Path.{_≡_, refl, _∙_, sym, ap}
 use mathlib.Core.Bool.{Bool, true, false, cond, not, _&&_, _||_}
 use mathlib.Core.List.{List, [], _∷_}
 use native.Mathlib.Omega.{arith}
-use borrow.Author.Tests.{ltb-true, ltb-false, eqb-true, eqb-false, eq-eqb, ne-eqb, le-leb, lt-leb}
+use borrow.Author.Tests.{ltb-true, ltb-false, eqb-true, eqb-false, ne-eqb, le-leb, lt-leb}
 use lib.Dec.{eqb, leb, ltb}
 use lib.ListN.{length, getD, length-append, List·getD-append}
 use Rattle.cells.specs.Test.{test, fault, first}
@@ -19,73 +19,54 @@ use Rattle.field.specs.declared.Rule.{Rule}
 use Rattle.field.specs.declared.Sofar.{Sofar}
 use Rattle.field.proofs.Characters.{filled-is}
 use Rattle.row.specs.Table.{mark}
+use Rattle.laid.proofs.Numerals.{no-digits, last-digit, count-more, width-of, lasts, printed-lasts}
+use Rattle.laid.proofs.Figures.{one-digit as one-figure}
 use Rattle.held.proofs.Numbers.{number-value, number-figures}
 use Rattle.entry.specs.Code.Judge.{kindMark, numberWrong}
 
 -- ---- a number's digits
--- none are left of 0
-no-digits : (k n : ℕ) → n ≡ 0 → digits k n ≡ []
-unfolding digits
-no-digits zero n h = refl
-no-digits (suc k) n h = rw (eq-eqb n 0 h)
-
 -- the first is not 0
-first-digit : (k n : ℕ) → n ≤ k → (n ≡ 0 → ⊥) → (1 ≤ length (digits k n)) × (49 ≤ getD (digits k n) 0 0)
-unfolding digits
-first-digit zero n l h = absurd (h (omega arith))
+first-digit : (k n : ℕ) → n ≤ k → 0 < n → (1 ≤ length (digits k n)) × (49 ≤ getD (digits k n) 0 0)
+first-digit zero n l h = absurd (omega arith)
 first-digit (suc k) n l h =
     cases (eqb (n / 10) 0)
-    (λ z. let q : n / 10 ≡ 0 = eqb-true _ _ z in rw (ne-eqb n 0 h, no-digits k (n / 10) q) (omega arith, omega arith))
+    (λ z. let q : n / 10 ≡ 0 = eqb-true _ _ z in rw (last-digit k n h, q, no-digits k) (omega arith, omega arith))
     (λ z. let q : n / 10 ≡ 0 → ⊥ = eqb-false _ _ z in
-    let m = first-digit k (n / 10) (omega arith) q in
-    rw (ne-eqb n 0 h, length-append (digits k (n / 10)) ((48 + n % 10) ∷ []), List·getD-append (digits k (n / 10)) ((48 + n % 10) ∷ []) 0 0 (m .0))
+    let m = first-digit k (n / 10) (omega arith) (omega arith) in
+    rw (last-digit k n h, length-append (digits k (n / 10)) ((48 + n % 10) ∷ []), List·getD-append (digits k (n / 10)) ((48 + n % 10) ∷ []) 0 0 (m .0))
     (omega (arith, m .0), m .1))
 
-printed-first : (n : ℕ) → (n ≡ 0 → ⊥) → (1 ≤ length (printNumber n)) × (49 ≤ getD (printNumber n) 0 0)
+printed-first : (n : ℕ) → (n ≡ 0 → ⊥) → 49 ≤ getD (printNumber n) 0 0
 unfolding printNumber
-printed-first n h = rw (ne-eqb n 0 h) (first-digit n n (omega arith) h)
+printed-first n h = rw (ne-eqb n 0 h) (first-digit n n (omega arith) (omega arith) .1)
+
+-- there is one at least
+number-some : (n : ℕ) → 1 ≤ length (printNumber n)
+number-some n = omega (arith, width-of n)
 
 or-true : (b : Bool) → b || true ≡ true
 or-true true = refl
 or-true false = refl
 
--- A number is written in its shortest form,
+-- A number is written in its shortest form.
 number-shortest : (n : ℕ) → shortest (printNumber n) ≡ true
 unfolding shortest printNumber figures figure
 number-shortest n =
     cases (eqb n 0) (λ e. rw e)
     (λ e. let z : n ≡ 0 → ⊥ = eqb-false _ _ e in
-    let m = printed-first n z in
     let w : List ℕ = printNumber n in
-    all w (m .0) (number-figures n) (ne-eqb (getD w 0 0) 48 (λ y. omega (arith, m .1))))
+    all w (number-some n) (number-figures n) (ne-eqb (getD w 0 0) 48 (λ y. omega (arith, printed-first n z))))
   where
     all : (w : List ℕ) → 1 ≤ length w → figures w ≡ true → eqb (getD w 0 0) 48 ≡ false → leb 1 (length w) && (figures w && (eqb (length w) 1 || not (eqb (getD w 0 0) 48))) ≡ true
     all w a b d = rw (le-leb 1 (length w) a, b, d) (or-true (eqb (length w) 1))
 
--- with a digit at least.
-number-some : (n : ℕ) → 1 ≤ length (printNumber n)
-unfolding printNumber
-number-some n = cases (eqb n 0) (λ e. rw e (omega arith)) (λ e. rw e (first-digit n n (omega arith) (eqb-false _ _ e) .0))
-
 -- ---- the kind's character
 one-digit : (n : ℕ) → n < 10 → printNumber n ≡ (48 + n) ∷ []
-unfolding printNumber digits
-one-digit zero l = refl
-one-digit (suc k) l =
-    let q : suc k / 10 ≡ 0 = omega arith in
-    let m : suc k % 10 ≡ suc k = omega arith in
-    rw (ne-eqb (suc k) 0 (λ z. omega arith), no-digits k (suc k / 10) q, m)
-
-more-digits : (k n : ℕ) → n ≤ k → 10 ≤ n → 2 ≤ length (digits k n)
-unfolding digits
-more-digits zero n l h = absurd (omega arith)
-more-digits (suc k) n l h =
-    let m = first-digit k (n / 10) (omega arith) (λ z. omega arith) in
-    rw (ne-eqb n 0 (λ z. omega arith), length-append (digits k (n / 10)) ((48 + n % 10) ∷ [])) (omega (arith, m .0))
+unfolding lasts
+one-digit n l = let m : n % 10 ≡ n = omega arith in printed-lasts n ∙ ap (λ (k : ℕ). lasts k n) (one-figure n l) ∙ ap (λ (k : ℕ). (48 + k) ∷ []) m
 
 long : (n : ℕ) → 10 ≤ n → 2 ≤ length (printNumber n)
-unfolding printNumber
-long n h = rw (ne-eqb n 0 (λ z. omega arith)) (more-digits n n (omega arith) h)
+long n h = omega (arith, width-of n, count-more (n / 10) (omega arith))
 
 -- The character of a kind that is held is that of its digits.
 pub mark-is : (n : ℕ) → mark (kindMark 0 n ∷ []) ≡ mark (printNumber n)
