@@ -1,13 +1,13 @@
 -- What each call answers, by the tests that the code makes.
 -- Assumes nothing.
 use Prim.Native.Nat.{ℕ, _+_, _≤_, _<_, min}
-use mathlib.Core.Path.{_≡_, refl, _∙_, sym, ap, ap₂}
+use mathlib.Core.Path.{_≡_, _∙_, sym, ap, ap₂}
 use mathlib.Core.Bool.{Bool, true, false, cond}
 use mathlib.Core.List.{List, [], _∷_}
 use native.Mathlib.Omega.{arith}
 use borrow.Author.Tests.{eq-eqb, ne-eqb, le-leb, lt-leb}
-use lib.Dec.{eqb}
-use lib.ListN.{length, set, replicate, length-append}
+use lib.Dec.{eqb, leb}
+use lib.ListN.{length, set, length-append}
 use lib.Seq.{sets}
 use Rattle.cells.specs.Text.{bytes}
 use Rattle.supplement.specs.declared.Supplement.{Supplement}
@@ -18,7 +18,7 @@ use Rattle.record.specs.Line.{readParts}
 use Rattle.record.specs.declared.Answer.{Answer}
 use Rattle.record.specs.declared.Record.{Record}
 use Rattle.held.specs.Held.{lentHeld, parts, printRecord}
-use Rattle.laid.specs.Laid.{Laid, laid, partBytes, textBytes, separatorOf, lineFrom, lineOf, roomFor, Put, putParts}
+use Rattle.laid.specs.Laid.{roomFor, Put, putParts}
 use Rattle.laid.proofs.Laws.{fits-in, no-room, left-out, some-room, put-in}
 use Rattle.entry.specs.Entry.{partList, numberIn, entryOf}
 use Rattle.entry.specs.Code.Judge.{laidIn}
@@ -30,33 +30,15 @@ use Rattle.writer.proofs.Line.{on-number, entryLine, line-is, room-is, 
 use Rattle.writer.proofs.WriteBack.{done}
 
 -- ---- opening
--- the version line, of one part
-abbrev version : Laid
-version = laid (replicate 10 2) (replicate 10 0) (replicate 10 0) (replicate 10 0) (bytes "JAHIS5")
+pub open-short : (out : List ℕ) → min (length out) 16384 < 9 → refuses out unopened 33 0 ≡ openBuffer out
+unfolding openBuffer room bytes
+open-short out h = let e : leb (0 + (6 + 3)) (min (length out) 16384) ≡ false = lt-leb 9 (min (length out) 16384) h in rw e
 
-version-line : lineOf [] version 1 ≡ ended (bytes "JAHIS5")
-unfolding lineFrom partBytes textBytes separatorOf
-version-line = refl
-
-module _ (out : List ℕ) (w : Put) (q : w ≡ putParts out 0 1 [] version) where
-  version-room : roomFor (length out) 0 (lineOf [] version 1) ≡ room out 0 (bytes "JAHIS5")
-  version-room = ap (roomFor (length out) 0) version-line ∙ room-is out 0 (bytes "JAHIS5")
-
-  pub open-short : w .end ≡ 0 → refuses (w .buffer) unopened 33 0 ≡ openBuffer out
-  unfolding openBuffer
-  open-short h =
-      let z : room out 0 (bytes "JAHIS5") ≡ false = sym version-room ∙ no-room out 0 1 [] version (omega arith) w q h in
-      rw z (ap (λ (b : List ℕ). refuses b unopened 33 0) (left-out out 0 1 [] version (omega arith) w q h))
-
-  pub open-put : (w .end ≡ 0 → ⊥) → done (w .end) false start (w .buffer) ≡ openBuffer out
-  unfolding openBuffer bytes
-  open-put h =
-      let r = some-room out 0 1 [] version (omega arith) w q h in
-      let z : room out 0 (bytes "JAHIS5") ≡ true = sym version-room ∙ r in
-      rw z
-      (ap (λ (x : Put). done (x .end) false start (x .buffer)) (put-in out 0 1 [] version (omega arith) w q h)
-      ∙ ap (λ (l : List ℕ). done (0 + length l) false start (sets out 0 l)) version-line
-      ∙ ap (done 8 false start) (put-is out 0 (ended (bytes "JAHIS5")) (rw version-line at (fits-in (length out) 0 (lineOf [] version 1) r))))
+pub open-put : (out : List ℕ) → 9 ≤ min (length out) 16384 → done 8 false start (sets out 0 (ended (bytes "JAHIS5"))) ≡ openBuffer out
+unfolding openBuffer room bytes
+open-put out h =
+    let e : leb (0 + (6 + 3)) (min (length out) 16384) ≡ true = le-leb 9 (min (length out) 16384) h in
+    rw (e, put-is out 0 (ended (bytes "JAHIS5")) (omega arith))
 
 -- ---- closing
 module _ (out : List ℕ) (t : State) where

@@ -2,7 +2,11 @@
 use field::Sofar;
 use record::Record;
 ghost use mathlib.Core.Path.{_≡_};
-ghost use Rattle.writer.specs.Writer.{state, openBuffer, putRecord, closeBuffer};
+ghost use Prim.Native.Nat.{_≤_};
+ghost use lib.ListN.{length};
+ghost use lib.Seq.{sets};
+ghost use Rattle.cells.specs.Text.{bytes};
+ghost use Rattle.writer.specs.Writer.{state, ended, openBuffer, putRecord, closeBuffer};
 
 // Where the writer is in the buffer, whether it is closed, and what the records before leave.
 pub struct State {
@@ -43,28 +47,29 @@ fn wrote(at: usize, closed: bool, c: Sofar) -> Told
     }
 }
 
+// The version line.
+fn put_version(out: &mut [u8])
+    requires { ⌜ 8 ≤ length (now out) ⌝ }
+    ensures { λ _. ⌜ now (out .exit) ≡ sets (now (out .entry)) 0 (ended (bytes "JAHIS5")) ⌝ }
+{
+    out[0] = b'J';
+    out[1] = b'A';
+    out[2] = b'H';
+    out[3] = b'I';
+    out[4] = b'S';
+    out[5] = b'5';
+    out[6] = b'\r';
+    out[7] = b'\n';
+}
+
 // ---- the calls
 
-// Opens a buffer: the version line, which has one part.
+// Opens a buffer: the version line.
 pub fn open(out: &mut [u8]) -> Told
     ensures { λ r. ⌜ record { put = r; buffer = now (out .exit) } ≡ openBuffer (now (out .entry)) ⌝ }
 {
     let c = record::start();
-    let kinds = [laid::OWN; 10];
-    let numbers = [0; 10];
-    let places = [0; 10];
-    let at = laid::put(
-        out,
-        0,
-        1,
-        b"",
-        &kinds,
-        &numbers,
-        &places,
-        &places,
-        b"JAHIS5",
-    );
-    if at == 0 {
+    if laid::limit(out.len()) < 9 {
         return refused(
             State {
                 at: 0,
@@ -75,7 +80,8 @@ pub fn open(out: &mut [u8]) -> Told
             0,
         );
     }
-    wrote(at, false, c)
+    put_version(out);
+    wrote(8, false, c)
 }
 
 // Puts a record, whose texts lie in the lent bytes.
