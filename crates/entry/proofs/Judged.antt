@@ -18,6 +18,7 @@ use Rattle.field.specs.Field.{forbidden, present, fits, isNumber, valued, order
 use Rattle.field.specs.declared.Rule.{Rule}
 use Rattle.field.specs.declared.Sofar.{Sofar}
 use Rattle.field.proofs.Characters.{filled-is}
+use Rattle.field.proofs.Bridge.{but-five}
 use Rattle.row.specs.Table.{mark}
 use Rattle.laid.proofs.Numerals.{no-digits, last-digit, count-more, width-of, lasts, printed-lasts}
 use Rattle.laid.proofs.Figures.{one-digit as one-figure}
@@ -79,12 +80,6 @@ mark-is n =
 is-number : (b : Bool) (k : ℕ) → isNumber (cond b (Is k) Not) ≡ b
 is-number true k = refl
 is-number false k = refl
-
--- a number in its range, and where it is a code kind not 5
-but-five : (kind five x : Bool) → cond kind (x && not five) x ≡ x && not (kind && five)
-but-five true five x = refl
-but-five false five true = refl
-but-five false five false = refl
 
 module _ (joins : Supplement → Bool) (c : Sofar) (r : Rule) (n : ℕ) (l : 7 ≤ r .form) (m : eqb (r .need) forbidden ≡ false) where
   in-range : isNumber (readNumber (r .lo) (r .hi) (printNumber n)) ≡ leb (r .lo) n && leb n (r .hi)

@@ -172,7 +172,7 @@ in-range lo hi m f small h =
     (λ e. let k : Not ≡ Is m = simp e at h in absurd (let z : _≡_ {A = ℕ} 0 1 = cc in omega arith))
 
 -- a number, and where it is a code kind not 5
-but-five : (kind five x : Bool) → cond kind (x && not five) x ≡ x && not (kind && five)
+pub but-five : (kind five x : Bool) → cond kind (x && not five) x ≡ x && not (kind && five)
 but-five true five x = refl
 but-five false five true = refl
 but-five false five false = refl
