@@ -24,8 +24,9 @@ use Rattle.field.specs.declared.Sofar.{Sofar}
 use Rattle.row.specs.Table.{rules, counted}
 use Rattle.row.specs.Row.{fine, fieldByField, readRow}
 use Rattle.row.specs.declared.Row.{Row}
-use Rattle.record.specs.Record.{start, recordOf, after, supplements}
-use Rattle.record.specs.Line.{readFields, recordNumber, readParts}
+use Rattle.record.specs.Record.{start, after, supplements}
+use Rattle.record_line.specs.Fields.{recordOf}
+use Rattle.record_line.specs.Line.{readFields, recordNumber, readParts}
 use Rattle.record.specs.declared.Record.{Record}
 use Rattle.record.specs.declared.Answer.{Answer}
 use Rattle.record.specs.declared.Answer.the-variants.{Took, Refused}

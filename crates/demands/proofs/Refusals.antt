@@ -31,7 +31,7 @@ use Rattle.row.specs.Table.{rules, counted}
 use Rattle.row.specs.Row.{fieldsAt, fine, fieldByField, readRow}
 use Rattle.row.specs.declared.Row.{Row}
 use Rattle.record.specs.Record.{start, after, supplements}
-use Rattle.record.specs.Line.{refusal, rowRefusal, recordNumber, readParts, lineAfter, lineAt}
+use Rattle.record_line.specs.Line.{refusal, rowRefusal, recordNumber, readParts, lineAfter, lineAt}
 use Rattle.record.specs.declared.Record.{Record}
 use Rattle.record.specs.declared.Refusal.{Refusal}
 use Rattle.record.specs.declared.Answer.{Answer}

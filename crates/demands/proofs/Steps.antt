@@ -27,8 +27,9 @@ use Rattle.order.proofs.Chain.{step, risen, begun}
 use Rattle.field.specs.Field.{isDay}
 use Rattle.field.specs.declared.Sofar.{Sofar}
 use Rattle.row.specs.Table.{nth, typed, rules, rulesFrom}
-use Rattle.record.specs.Record.{dateIn, supplementIn, recordOf, after, withSupplement}
-use Rattle.record.specs.Line.{recordNumber, readParts}
+use Rattle.record.specs.Record.{after, withSupplement}
+use Rattle.record_line.specs.Fields.{dateIn, supplementIn, recordOf}
+use Rattle.record_line.specs.Line.{recordNumber, readParts}
 use Rattle.record.specs.declared.Record.{Record}
 use Rattle.record.specs.declared.Record.the-variants.{Issue, Rp, Usage, Supplement as Supply, Drug, Kept}
 use Rattle.record.specs.declared.Answer.the-variants.{Took}

@@ -21,7 +21,7 @@ use Rattle.schedule.specs.Schedule.{list}
 use Rattle.field.specs.declared.Sofar.{Sofar}
 use Rattle.row.specs.Row.{fieldsAt, readRow}
 use Rattle.record.specs.Record.{start, after, supplements}
-use Rattle.record.specs.Line.{refusal, recordNumber, readParts}
+use Rattle.record_line.specs.Line.{refusal, recordNumber, readParts}
 use Rattle.record.specs.declared.Record.{Record}
 use Rattle.record.specs.declared.Refusal.{Refusal}
 use Rattle.record.specs.declared.Answer.{Answer}

@@ -20,7 +20,7 @@ use Rattle.schedule.proofs.Laws.{nothing-kept}
 use Rattle.field.specs.declared.Sofar.{Sofar}
 use Rattle.row.specs.Table.{typed}
 use Rattle.record.specs.Record.{textAt, start, after, withSupplement, supplements}
-use Rattle.record.specs.Line.{readParts}
+use Rattle.record_line.specs.Line.{readParts}
 use Rattle.record.specs.declared.UsageCode.{UsageCode}
 use Rattle.record.specs.declared.UsageCode.the-variants.{Is as usageIs, Empty as noUsage}
 use Rattle.record.specs.declared.SupplementCode.{SupplementCode}
@@ -29,7 +29,7 @@ use Rattle.record.specs.declared.Record.{Record}
 use Rattle.record.specs.declared.Record.the-variants.{Issue, Rp, Usage, Supplement as Supply, Drug, Kept}
 use Rattle.record.specs.declared.Answer.{Answer}
 use Rattle.record.specs.declared.Answer.the-variants.{Took, Refused}
-use Rattle.record.proofs.Leaves.{Keeps, leaves}
+use Rattle.record_line.proofs.Leaves.{Keeps, leaves}
 use Rattle.reader.specs.Open.{fileFault}
 use Rattle.reader.specs.File.{File, whole, linesOf, on, readLines, readFile}
 use Rattle.held.specs.Held.{Value, none, number, amount, text, day, usage, supplement, Held, optional, usageValue, supplementValue, held}

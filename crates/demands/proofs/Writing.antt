@@ -14,7 +14,7 @@ use Rattle.order.specs.Code.Next.{closes}
 use Rattle.schedule.specs.Code.Kept.{mayJoin}
 use Rattle.field.specs.declared.Sofar.{Sofar}
 use Rattle.record.specs.Record.{start, after}
-use Rattle.record.specs.Line.{readParts}
+use Rattle.record_line.specs.Line.{readParts}
 use Rattle.record.specs.declared.Record.{Record}
 use Rattle.record.specs.declared.Refusal.{Refusal}
 use Rattle.record.specs.declared.Answer.{Answer}

@@ -11,7 +11,7 @@ use Rattle.date.specs.declared.Made.{Made}
 use Rattle.date.specs.declared.Made.the-variants.{Day, None}
 use Rattle.order.specs.Order.{Begins, Sheet, Verdict}
 use Rattle.row.specs.Row.{fieldsAt}
-use Rattle.record.specs.Line.{refusal, recordNumber}
+use Rattle.record_line.specs.Line.{refusal, recordNumber}
 use Rattle.record.specs.declared.Refusal.{Refusal}
 
 -- "Characters, codes and fields count from 1 (fields after the record number), offsets from 0."

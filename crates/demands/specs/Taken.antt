@@ -20,8 +20,9 @@ use Rattle.field.specs.Field.{isEmpty, present, filled}
 use Rattle.field.specs.declared.Rule.{Rule}
 use Rattle.field.specs.declared.Sofar.{Sofar}
 use Rattle.row.specs.Table.{rules, counted}
-use Rattle.record.specs.Record.{start, recordOf, after, supplements}
-use Rattle.record.specs.Line.{recordNumber}
+use Rattle.record.specs.Record.{start, after, supplements}
+use Rattle.record_line.specs.Fields.{recordOf}
+use Rattle.record_line.specs.Line.{recordNumber}
 use Rattle.record.specs.declared.Record.{Record}
 use Rattle.reader.specs.File.{numberOf}
 

@@ -23,7 +23,7 @@ use Rattle.row.specs.Table.{typed, rulesOf, rules, counted}
 use Rattle.row.specs.Row.{fieldByField, readRow}
 use Rattle.row.specs.declared.Row.{Row}
 use Rattle.laid.specs.Laid.{noField, textOr, Laid}
-use Rattle.record.specs.Line.{refusal, rowRefusal, fromRow, readFields, recordNumber, readParts}
+use Rattle.record_line.specs.Line.{refusal, rowRefusal, fromRow, readFields, recordNumber, readParts}
 use Rattle.record.specs.declared.Refusal.{Refusal}
 use Rattle.record.specs.declared.Answer.the-variants.{Refused}
 use Rattle.held.proofs.Numbers.{number-value}

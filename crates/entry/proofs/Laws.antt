@@ -24,7 +24,7 @@ use Rattle.row.specs.Table.{mark, onlyWith, drugCodeNeed, nameNeed, typed, rule
 use Rattle.laid.specs.Laid.{noField, textOr, Laid, textBytes, partBytes}
 use Rattle.printed.specs.Printed.{dateField}
 use Rattle.printed.specs.declared.Piece.{Piece}
-use Rattle.record.specs.Line.{readParts}
+use Rattle.record_line.specs.Line.{readParts}
 use Rattle.record.specs.declared.Place.{Place}
 use Rattle.record.specs.declared.Kept.{Kept}
 use Rattle.record.specs.declared.Refusal.{Refusal}

@@ -9,7 +9,7 @@ use Rattle.number.specs.Print.{printAmount}
 use Rattle.supplement.specs.declared.Supplement.{Supplement}
 use Rattle.field.specs.declared.Sofar.{Sofar}
 use Rattle.printed.specs.Printed.{dateField, piece}
-use Rattle.record.specs.Line.{readParts}
+use Rattle.record_line.specs.Line.{readParts}
 use Rattle.record.specs.declared.Place.{Place}
 use Rattle.record.specs.declared.Answer.{Answer}
 use Rattle.record.specs.declared.Answer.the-variants.{Took, Refused}

@@ -31,8 +31,9 @@ use Rattle.order.specs.Code.Next.{follow}
 use Rattle.field.specs.Field.{rule, isEmpty, isDay, numberOf, faultIn, codeFault, wrong}
 use Rattle.field.specs.declared.Sofar.{Sofar}
 use Rattle.row.specs.Table.{nth, typed, rules, rulesFrom}
-use Rattle.record.specs.Record.{placeOf, textAt, dateIn, usageIn, supplementIn, recordOf, after, supplements}
-use Rattle.record.specs.Line.{numberIn, readParts}
+use Rattle.record.specs.Record.{textAt, after, supplements}
+use Rattle.record_line.specs.Fields.{placeOf, dateIn, usageIn, supplementIn, recordOf}
+use Rattle.record_line.specs.Line.{numberIn, readParts}
 use Rattle.record.specs.declared.UsageCode.{UsageCode}
 use Rattle.record.specs.declared.UsageCode.the-variants.{Is as usageIs, Empty as noUsage}
 use Rattle.record.specs.declared.SupplementCode.{SupplementCode}
@@ -40,7 +41,7 @@ use Rattle.record.specs.declared.SupplementCode.the-variants.{Is as supplementI
 use Rattle.record.specs.declared.Record.{Record}
 use Rattle.record.specs.declared.Record.the-variants.{Issue, Rp, Usage, Supplement as Supply, Drug, Kept}
 use Rattle.record.specs.declared.Answer.the-variants.{Took}
-use Rattle.record.proofs.Stands.{stands, all-stand, after-first}
+use Rattle.record_line.proofs.Stands.{stands, all-stand, after-first}
 use Rattle.held.specs.Held.{number, amount, text, optional, usageValue, supplementValue, holding, held, lentText, lentHeld, print, parts, printRecord}
 use Rattle.held.proofs.Numbers.{number-value, amount-value}
 use Rattle.held.proofs.Field.{coded, day-read, refused-usage, refused-supplement}

@@ -32,7 +32,7 @@ use Rattle.field.specs.Field.{rule, free, required, isEmpty, isNumber, isDay, n
 use Rattle.field.specs.declared.Rule.{Rule}
 use Rattle.field.specs.declared.Sofar.{Sofar}
 use Rattle.field.proofs.Laws.{passes, empty-only}
-use Rattle.record.specs.Record.{dateIn, usageIn, supplementIn}
+use Rattle.record_line.specs.Fields.{dateIn, usageIn, supplementIn}
 use Rattle.held.specs.Held.{number, amount, day, usageValue, supplementValue, optional, print}
 
 -- ---- what the tests of a field tell

@@ -14,7 +14,7 @@ use Rattle.line.specs.Fields.{split, join, noCommas}
 use Rattle.supplement.specs.declared.Supplement.{Supplement}
 use Rattle.field.specs.declared.Sofar.{Sofar}
 use Rattle.record.specs.Record.{start, after, supplements}
-use Rattle.record.specs.Line.{readParts}
+use Rattle.record_line.specs.Line.{readParts}
 use Rattle.record.specs.declared.Record.{Record}
 use Rattle.record.specs.declared.Answer.the-variants.{Took}
 use Rattle.reader.specs.Open.{fileFault}

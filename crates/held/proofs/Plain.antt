@@ -25,7 +25,7 @@ use Rattle.order.specs.Code.Next.{follow}
 use Rattle.field.specs.Field.{fits, valued, faultIn, codeFault, isNumber, wrong}
 use Rattle.field.specs.declared.Rule.{Rule}
 use Rattle.field.specs.declared.Sofar.{Sofar}
-use Rattle.record.specs.Line.{numberIn, readParts}
+use Rattle.record_line.specs.Line.{numberIn, readParts}
 use Rattle.record.specs.declared.Record.{Record}
 use Rattle.record.specs.declared.Answer.the-variants.{Took}
 use Rattle.field.proofs.Laws.{passes}

@@ -18,12 +18,13 @@ use Rattle.supplement.specs.declared.Supplement.{Supplement}
 use Rattle.field.specs.Field.{valued}
 use Rattle.field.specs.declared.Sofar.{Sofar}
 use Rattle.row.specs.Table.{nth, typed, rulesFrom, rules, onlyWith}
-use Rattle.record.specs.Record.{offset, placeOf, textAt, recordOf}
-use Rattle.record.specs.Line.{numberIn, readParts}
+use Rattle.record.specs.Record.{textAt}
+use Rattle.record_line.specs.Fields.{offset, placeOf, recordOf}
+use Rattle.record_line.specs.Line.{numberIn, readParts}
 use Rattle.record.specs.declared.Place.{Place}
 use Rattle.record.specs.declared.Record.{Record}
 use Rattle.record.specs.declared.Answer.the-variants.{Took}
-use Rattle.record.proofs.Stands.{stands, all-stand, after-first}
+use Rattle.record_line.proofs.Stands.{stands, all-stand, after-first}
 use Rattle.laid.specs.Laid.{textOr}
 use Rattle.held.specs.Held.{text, heldBy, held, lentText, lentHeld, print, parts, printRecord}
 use Rattle.held.proofs.Field.{number-back, optional-back, amount-back, date-back, usage-back, supplement-back}

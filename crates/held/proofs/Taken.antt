@@ -18,8 +18,8 @@ use Rattle.order.specs.Order.{some, header, directions, drug, records}
 use Rattle.order.specs.Code.Next.{follow}
 use Rattle.field.specs.declared.Sofar.{Sofar}
 use Rattle.row.specs.Row.{readRow}
-use Rattle.record.specs.Record.{recordOf}
-use Rattle.record.specs.Line.{numberIn, readFields}
+use Rattle.record_line.specs.Fields.{recordOf}
+use Rattle.record_line.specs.Line.{numberIn, readFields}
 use Rattle.record.specs.declared.Record.{Record}
 use Rattle.record.specs.declared.Answer.the-variants.{Took}
 use Rattle.held.proofs.Row.{Fine, row-fine}

@@ -20,13 +20,13 @@ use Rattle.schedule.specs.Code.Kept.{mayJoin}
 use Rattle.schedule.proofs.Laws.{nothing-kept, decides}
 use Rattle.row.specs.Row.{fieldsAt}
 use Rattle.record.specs.Record.{start, after, supplements}
-use Rattle.record.specs.Line.{refusal, readParts, lineAfter, lineAt}
+use Rattle.record_line.specs.Line.{refusal, readParts, lineAfter, lineAt}
 use Rattle.record.specs.declared.Record.{Record}
 use Rattle.record.specs.declared.Refusal.{Refusal}
 use Rattle.record.specs.declared.Answer.{Answer}
 use Rattle.record.specs.declared.Answer.the-variants.{Took, Refused}
-use Rattle.record.proofs.Same.{same-parts}
-use Rattle.record.proofs.Leaves.{Keeps, leaves}
+use Rattle.record_line.proofs.Same.{same-parts}
+use Rattle.record_line.proofs.Leaves.{Keeps, leaves}
 use Rattle.reader.specs.Open.{fileFault}
 use Rattle.reader.specs.File.{File, Ending, whole, stopped, ended, before, on as upon, readLines, readFile}
 use Rattle.reader.specs.Reader.{openFile, endAt, closing, on, nextRecord, call, endingOf}

@@ -14,7 +14,7 @@ use Rattle.record.specs.declared.Record.{Record}
 use Rattle.record.specs.declared.Refusal.{Refusal}
 use Rattle.record.specs.declared.Answer.{Answer}
 use Rattle.record.specs.declared.Answer.the-variants.{Took, Refused as Stops}
-use Rattle.record.specs.Line.{readParts, lineAfter, lineAt, passedOf}
+use Rattle.record_line.specs.Line.{readParts, lineAfter, lineAt, passedOf}
 use Rattle.row.specs.Row.{fieldsAt}
 use Rattle.line.specs.Fields.{join}
 use Rattle.record.specs.declared.Line.{Line}

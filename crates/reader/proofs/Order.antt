@@ -18,8 +18,9 @@ use Rattle.schedule.specs.Schedule.{list}
 use Rattle.field.specs.declared.Sofar.{Sofar}
 use Rattle.row.specs.Row.{readRow}
 use Rattle.row.specs.declared.Row.{Row}
-use Rattle.record.specs.Record.{start, after, recordOf, supplements}
-use Rattle.record.specs.Line.{refusal, fromRow, readFields, recordNumber, readParts}
+use Rattle.record.specs.Record.{start, after, supplements}
+use Rattle.record_line.specs.Fields.{recordOf}
+use Rattle.record_line.specs.Line.{refusal, fromRow, readFields, recordNumber, readParts}
 use Rattle.record.specs.declared.Record.{Record}
 use Rattle.record.specs.declared.Record.the-variants.{Issue, Rp, Usage, Supplement as Supply, Drug, Kept}
 use Rattle.record.specs.declared.Refusal.{Refusal}

@@ -11,7 +11,7 @@ use Rattle.order.specs.Code.Next.{closes}
 use Rattle.schedule.specs.Schedule.{list}
 use Rattle.field.specs.declared.Sofar.{Sofar}
 use Rattle.record.specs.Record.{start, after, supplements}
-use Rattle.record.specs.Line.{refusal, readParts}
+use Rattle.record_line.specs.Line.{refusal, readParts}
 use Rattle.record.specs.declared.Record.{Record}
 use Rattle.record.specs.declared.Record.the-variants.{Issue, Rp, Usage, Supplement as Supply, Drug, Kept}
 use Rattle.record.specs.declared.Refusal.{Refusal}

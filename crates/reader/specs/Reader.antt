@@ -8,7 +8,7 @@ use lib.ListN.{length, getD}
 use Rattle.order.specs.Code.Next.{closes}
 use Rattle.schedule.specs.Code.Kept.{mayJoin}
 use Rattle.record.specs.Record.{start, after}
-use Rattle.record.specs.Line.{refusal, lineAt}
+use Rattle.record_line.specs.Line.{refusal, lineAt}
 use Rattle.record.specs.declared.Record.{Record}
 use Rattle.record.specs.declared.Answer.{Answer}
 use Rattle.record.specs.declared.Answer.the-variants.{Took, Refused}

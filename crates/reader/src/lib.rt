@@ -5,7 +5,7 @@ use record::Passed;
 use record::Record;
 use record::Refusal;
 ghost use mathlib.Core.Path.{_≡_};
-ghost use Rattle.record.specs.Line.{refusal as refusalOf};
+ghost use Rattle.record_line.specs.Line.{refusal as refusalOf};
 ghost use Rattle.reader.specs.Open.{versionLine};
 ghost use Rattle.reader.specs.File.{checkFile};
 ghost use Rattle.reader.specs.Reader.{opened as openedOf, openFile, refuses, endAt, closing, on, nextRecord};
@@ -149,7 +149,7 @@ pub fn next(s: &[u8], t: State) -> Step
     if ends(s, at) {
         return close(t);
     }
-    let l = record::read(t.sofar, s, at);
+    let l = record_line::read(t.sofar, s, at);
     let answer = l.answer;
     moved(t, answer, l.next, l.sofar)
 }
@@ -189,7 +189,7 @@ fn pass(s: &[u8], t: State) -> Gone
         return Gone::Refused(told(t.number, at));
     }
     if !ends(s, at) {
-        return went(record::pass(t.sofar, s, at));
+        return went(record_line::pass(t.sofar, s, at));
     }
     if order::closes(t.sofar.last) {
         return Gone::End;

@@ -1,118 +1,27 @@
 -- What a record holds: its numbers as numbers, its codes as what they say, its texts as their places in the file.
 -- Assumes nothing.
-use Prim.Native.Nat.{ℕ, zero, suc, _+_, _-_}
+use Prim.Native.Nat.{ℕ, _+_}
 use mathlib.Core.Bool.{cond}
 use mathlib.Core.List.{List, [], _∷_, _++_}
-use lib.Dec.{eqb, leb}
+use lib.Dec.{leb}
 use lib.ListN.{length}
 use lib.Seq.{slice}
-use Rattle.cells.specs.Test.{Answer, took, refused}
-use Rattle.line.specs.Fields.{join}
-use Rattle.number.specs.Amount.{hundredThousandths}
-use Rattle.date.specs.Date.{readDate, date}
-use Rattle.date.specs.declared.Date.{Date}
-use Rattle.date.specs.declared.Made.{Made}
-use Rattle.date.specs.declared.Made.the-variants.{Day, None}
-use Rattle.usage.specs.Usage.{readUsage}
-use Rattle.usage.specs.declared.Instruction.{Instruction}
-use Rattle.supplement.specs.Supplement.{readSupplement}
 use Rattle.supplement.specs.declared.Supplement.{Supplement}
 use Rattle.schedule.specs.Code.Kept.{kept, keepOf}
 use Rattle.schedule.specs.declared.Schedule.{Schedule}
 use Rattle.counter.specs.declared.RpNumber.{RpNumber}
 use Rattle.counter.specs.declared.DrugSerial.{DrugSerial}
 use Rattle.counter.specs.declared.SupplementSerial.{SupplementSerial}
-use Rattle.field.specs.Field.{numberOf}
 use Rattle.field.specs.declared.Sofar.{Sofar}
-use Rattle.row.specs.Table.{nth}
-use Rattle.row.specs.Row.{fieldsAt}
 use Rattle.record.specs.declared.Place.{Place}
-use Rattle.record.specs.declared.UsageCode.{UsageCode}
-use Rattle.record.specs.declared.UsageCode.the-variants.{Is as usageIs, Empty as noUsage}
 use Rattle.record.specs.declared.SupplementCode.{SupplementCode}
 use Rattle.record.specs.declared.SupplementCode.the-variants.{Is as supplementIs, Empty as noSupplement}
-use Rattle.record.specs.declared.Kept.{Kept as KeptFields}
 use Rattle.record.specs.declared.Record.{Record}
 use Rattle.record.specs.declared.Record.the-variants.{Issue, Rp, Usage, Supplement as Supply, Drug, Kept}
-
--- How far after the first field the field with k fields before it begins: each of those has its bytes and its comma.
-unfoldable pub offset : ℕ → List (List ℕ) → ℕ
-offset zero fs = 0
-offset (suc k) [] = 0
-offset (suc k) (f ∷ fs) = length f + 1 + offset k fs
-
--- "A text is that part of the file itself": the place of the kth field, where the first begins at `at`.
-abbrev pub placeOf : ℕ → ℕ → List (List ℕ) → Place
-placeOf at k fs = record { from = at + offset (k - 1) fs; to = at + offset (k - 1) fs + length (nth k fs) }
 
 -- The bytes at a place of the file; nothing where the file has no such place.
 unfoldable pub textAt : List ℕ → Place → List ℕ
 textAt s p = cond (leb (p .from) (p .to)) (cond (leb (p .to) (length s)) (slice (p .from) (p .to) s) []) []
-
--- The nth field, counted from 1, of a record that is kept; nothing where it has fewer.
-unfoldable pub keptField : List ℕ → KeptFields → ℕ → List ℕ
-keptField s k n = nth n (fieldsAt s (k .fields .from))
-
--- The date that a field is read as.
-abbrev pub dateIn : Made → Date
-dateIn (Day t) = t
-dateIn None = date 0 0 0 0
-
--- The usage code that a field is read as, where it holds one.
-abbrev pub usageIn : Answer Instruction → UsageCode
-usageIn (took i) = usageIs i
-usageIn (refused n p) = noUsage
-
--- The supplement that a field is read as, where it holds one.
-abbrev pub supplementIn : Answer Supplement → SupplementCode
-supplementIn (took x) = supplementIs x
-supplementIn (refused n p) = noSupplement
-
--- The record of a number and its fields, of which the first begins at `at`.
-unfoldable pub recordOf : ℕ → ℕ → List (List ℕ) → Record
-recordOf n at fs =
-    cond (eqb n 51) (Issue (record { date = dateIn (readDate (nth 1 fs)) }))
-    (cond (eqb n 101)
-    (Rp
-    (record {
-      rp = record { 0 = numberOf (nth 1 fs) };
-      form = numberOf (nth 2 fs);
-      name = placeOf at 3 fs;
-      quantity = numberOf (nth 4 fs);
-    }))
-    (cond (eqb n 111)
-    (Usage
-    (record {
-      rp = record { 0 = numberOf (nth 1 fs) };
-      kind = numberOf (nth 2 fs);
-      code = usageIn (readUsage (nth 3 fs));
-      name = placeOf at 4 fs;
-      times = numberOf (nth 5 fs);
-    }))
-    (cond (eqb n 181)
-    (Supply
-    (record {
-      rp = record { 0 = numberOf (nth 1 fs) };
-      serial = record { 0 = numberOf (nth 2 fs) };
-      kind = numberOf (nth 3 fs);
-      text = placeOf at 4 fs;
-      code = supplementIn (readSupplement (nth 5 fs));
-      site = placeOf at 6 fs;
-    }))
-    (cond (eqb n 201)
-    (Drug
-    (record {
-      rp = record { 0 = numberOf (nth 1 fs) };
-      serial = record { 0 = numberOf (nth 2 fs) };
-      kind = numberOf (nth 3 fs);
-      coding = numberOf (nth 4 fs);
-      code = placeOf at 5 fs;
-      name = placeOf at 6 fs;
-      amount = hundredThousandths (nth 7 fs);
-      flag = numberOf (nth 8 fs);
-      unit = placeOf at 9 fs;
-    }))
-    (Kept (record { number = n; fields = record { from = at; to = at + length (join fs) } }))))))
 
 -- Before the first record.
 unfoldable pub start : Sofar

@@ -25,8 +25,8 @@ use Rattle.supplement.specs.declared.Supplement.{Supplement}
 use Rattle.field.specs.Field.{rule, isNumber, numberOf, valued, wrong}
 use Rattle.field.specs.declared.Sofar.{Sofar}
 use Rattle.field.proofs.Laws.{passes}
-use Rattle.record.specs.Record.{dateIn, usageIn, supplementIn}
-use Rattle.record.specs.Line.{numberIn}
+use Rattle.record_line.specs.Fields.{dateIn, usageIn, supplementIn}
+use Rattle.record_line.specs.Line.{numberIn}
 use Rattle.plain.specs.Fits.{Within, none, more}
 use Rattle.plain_record.specs.Fits.{FitsUsageCode, FitsSupplementCode}
 use Rattle.plain_record.specs.Fits as Fits

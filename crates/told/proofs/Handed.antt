@@ -16,8 +16,8 @@ use Rattle.order.specs.Code.Next.{closes}
 use Rattle.field.specs.Field.{rule, required, free, isNumber, numberOf, valued, wrong}
 use Rattle.field.specs.declared.Sofar.{Sofar}
 use Rattle.row.specs.Table.{nth, typed, rules, rulesFrom}
-use Rattle.record.specs.Record.{recordOf}
-use Rattle.record.specs.Line.{recordNumber, readParts, lineAfter, lineAt}
+use Rattle.record_line.specs.Fields.{recordOf}
+use Rattle.record_line.specs.Line.{recordNumber, readParts, lineAfter, lineAt}
 use Rattle.record.specs.declared.Record.{Record}
 use Rattle.record.specs.declared.Answer.{Answer}
 use Rattle.record.specs.declared.Answer.the-variants.{Took, Refused}

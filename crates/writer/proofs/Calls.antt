@@ -14,7 +14,7 @@ use Rattle.supplement.specs.declared.Supplement.{Supplement}
 use Rattle.order.specs.Code.Next.{closes}
 use Rattle.schedule.specs.Code.Kept.{mayJoin}
 use Rattle.record.specs.Record.{start, after}
-use Rattle.record.specs.Line.{readParts}
+use Rattle.record_line.specs.Line.{readParts}
 use Rattle.record.specs.declared.Answer.{Answer}
 use Rattle.record.specs.declared.Record.{Record}
 use Rattle.held.specs.Held.{lentHeld, parts, printRecord}

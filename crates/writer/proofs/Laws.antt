@@ -18,7 +18,7 @@ use Rattle.line.proofs.Laws.{framed}
 use Rattle.schedule.proofs.Laws.{nothing-kept}
 use Rattle.record.specs.Record.{start}
 use Rattle.record.specs.declared.Record.{Record}
-use Rattle.record.proofs.Leaves.{Keeps}
+use Rattle.record_line.proofs.Leaves.{Keeps}
 use Rattle.reader.specs.Open.{versionLine, fileFault}
 use Rattle.reader.specs.File.{File, whole, readLines, readFile}
 use Rattle.reader.proofs.Lines.{opens, lines-of}

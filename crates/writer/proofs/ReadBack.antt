@@ -18,12 +18,12 @@ use Rattle.schedule.specs.Schedule.{list}
 use Rattle.schedule.specs.Code.Kept.{mayJoin}
 use Rattle.field.specs.declared.Sofar.{Sofar}
 use Rattle.record.specs.Record.{after, supplements}
-use Rattle.record.specs.Line.{readParts}
+use Rattle.record_line.specs.Line.{readParts}
 use Rattle.record.specs.declared.Record.{Record}
 use Rattle.record.specs.declared.Answer.{Answer}
 use Rattle.record.specs.declared.Answer.the-variants.{Took, Refused}
-use Rattle.record.proofs.Same.{same-parts}
-use Rattle.record.proofs.Leaves.{Keeps, leaves}
+use Rattle.record_line.proofs.Same.{same-parts}
+use Rattle.record_line.proofs.Leaves.{Keeps, leaves}
 use Rattle.reader.specs.File.{File, whole, before, on, readLines}
 use Rattle.reader.proofs.Lines.{after-line}
 use Rattle.held.specs.Held.{Held, held, lentHeld, parts, printRecord}
