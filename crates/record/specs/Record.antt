@@ -1,4 +1,4 @@
--- What a record holds: its numbers as numbers, its codes as what they say, its texts as their places in the file.
+-- A text by its place in the file, and what a record leaves for those after it.
 -- Assumes nothing.
 use Prim.Native.Nat.{ℕ, _+_}
 use mathlib.Core.Bool.{cond}
