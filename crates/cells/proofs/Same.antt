@@ -7,7 +7,7 @@ use mathlib.Core.List.{List, [], _∷_}
 use native.Mathlib.Omega.{arith}
 use borrow.Author.Tests.{eq-eqb, eqb-true}
 use lib.Dec.{eqb}
-use Rattle.cells.specs.Code.Same.{eqs}
+use Rattle.cells.specs.Same.{eqs}
 use Rattle.cells.proofs.Alike.{and-left, and-right}
 
 pub eqs-eq : (xs ys : List ℕ) → eqs xs ys ≡ true → xs ≡ ys

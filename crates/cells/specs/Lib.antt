@@ -2,4 +2,5 @@ pub mod Text
 pub mod Test
 pub mod Cells
 pub mod Writing
+pub mod Same
 pub mod Code

@@ -1,11 +1,11 @@
 -- Characters and sets of characters. A set stands in quotes, as document 01 writes it; a character is its byte.
 -- Assumes nothing.
-use Prim.Native.Nat.{ℕ, zero, suc}
+use Prim.Native.Nat.{ℕ, zero, suc, _+_}
 use Prim.Native.Char.{code}
 use Prim.Native.String.{String, [] as nil, _∷_ as cons}
 use mathlib.Core.Bool.{Bool, true, false, cond}
 use mathlib.Core.List.{List, [], _∷_}
-use lib.Dec.{eqb}
+use lib.Dec.{ltb, eqb}
 
 -- A character stands in a text.
 unfoldable pub among : String → ℕ → Bool
@@ -35,3 +35,7 @@ digits = "0123456789ABCDEFGHIJKLMNOPQRSTUVWXYZ"
 -- The value of a character.
 unfoldable pub digit : ℕ → ℕ
 digit c = index digits c
+
+-- The character of a value: "1 to 9, A to V; up to 35, on to Z"; 0, which is no character of a code, where there is none.
+unfoldable pub letter : ℕ → ℕ
+letter v = cond (ltb v 10) (48 + v) (cond (ltb v 36) (55 + v) 0)

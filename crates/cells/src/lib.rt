@@ -2,7 +2,8 @@
 ghost use mathlib.Core.Path.{_≡_};
 ghost use Prim.Native.Nat.{_+_, _-_, _<_, _≤_};
 ghost use lib.ListN.{length};
-ghost use Rattle.cells.specs.Code.Mask.{value as valueOf, letter as letterOf, has as hasOf, wrong as wrongOf, unused as unusedOf, wrongAt, scan};
+ghost use Rattle.cells.specs.Code.Mask.{value as valueOf, has as hasOf, wrong as wrongOf, unused as unusedOf, wrongAt, scan};
+ghost use Rattle.cells.specs.Text.{letter as letterOf};
 
 // One of document 01's numbers, and a place; the number 0 says that nothing is at fault.
 pub struct Fault {

@@ -12,11 +12,11 @@ use Rattle.cells.proofs.Split.{split}
 use Rattle.cells.proofs.Writing as writing
 use Rattle.usage.specs.Usage.{readUsage}
 use Rattle.usage.specs.declared.Instruction.{Instruction}
-use Rattle.usage_writer.specs.Code.Write.{raw as rawUsage}
+use Rattle.usage_writer.specs.Print.{raw as rawUsage}
 use Rattle.usage_writer.proofs.Laws.{back as usage-back, one-code as one-usage-code}
 use Rattle.supplement.specs.Supplement.{readSupplement}
 use Rattle.supplement.specs.declared.Supplement.{Supplement}
-use Rattle.supplement_writer.specs.Code.Write.{raw as rawSupplement}
+use Rattle.supplement_writer.specs.Print.{raw as rawSupplement}
 use Rattle.supplement_writer.proofs.Laws.{back as supplement-back, one-code as one-supplement-code}
 use Rattle.days_writer.specs.Set.{said}
 use Rattle.days_writer.specs.declared.Wrote.{Wrote}

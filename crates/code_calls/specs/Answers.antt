@@ -7,8 +7,7 @@ use lib.Dec.{eqb}
 use Rattle.cells.specs.Test.{Answer, took, refused}
 use Rattle.date.specs.Date.{makeWestern, makeEra, makeDate}
 use Rattle.date.specs.Print.{printDate, text}
-use Rattle.date.specs.declared.Made.{Made}
-use Rattle.date.specs.declared.Made.the-variants.{Day, None}
+use Rattle.date.specs.declared.Date.{Date}
 
 -- The number of an answer: 0, or the refusal's.
 abbrev pub number : {A : Type 0} → Answer A → ℕ
@@ -31,20 +30,13 @@ orCount (took n) before = n
 orCount (refused n p) before = before
 
 -- "A caller who makes a date without naming one, or names era style": 1 is western style, 2 era style, any other number none named.
-unfoldable pub makeStyled : ℕ → ℕ → ℕ → ℕ → Made
+unfoldable pub makeStyled : ℕ → ℕ → ℕ → ℕ → Answer Date
 makeStyled y m d style = cond (eqb style 1) (makeWestern y m d) (cond (eqb style 2) (makeEra y m d) (makeDate y m d))
 
--- "No such day or year is 27."
-abbrev pub madeNumber : Made → ℕ
-madeNumber (Day t) = 0
-madeNumber None = 27
-
 -- A date's numbers, as record 51 has them.
-abbrev pub madeNumbers : Made → List ℕ → List ℕ
-madeNumbers (Day t) before = t .era ∷ t .year ∷ t .month ∷ t .day ∷ []
-madeNumbers None before = before
+abbrev pub dateNumbers : Date → List ℕ
+dateNumbers t = t .era ∷ t .year ∷ t .month ∷ t .day ∷ []
 
 -- Its characters, and 0 bytes after them.
-abbrev pub madeText : Made → List ℕ → List ℕ
-madeText (Day t) before = text (printDate t) .bytes
-madeText None before = before
+abbrev pub dateText : Date → List ℕ
+dateText t = text (printDate t) .bytes

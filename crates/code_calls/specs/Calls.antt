@@ -4,12 +4,12 @@ use Prim.Native.Nat.{ℕ}
 use mathlib.Core.Path.{_≡_}
 use mathlib.Core.List.{List, [], _∷_}
 use Rattle.cells.specs.Test.{Answer}
-use Rattle.date.specs.declared.Made.{Made}
+use Rattle.date.specs.declared.Date.{Date}
 use Rattle.days_writer.specs.Set.{WritesSet, said}
 use Rattle.days.specs.declared.Run.{Run}
 use Rattle.days_writer.specs.declared.Wrote.{Wrote}
 use Rattle.plain.specs.Held.{unless0}
-use Rattle.code_calls.specs.Answers.{number, place, orBefore, orCount, madeNumber, madeNumbers, madeText}
+use Rattle.code_calls.specs.Answers.{number, place, orBefore, orCount, dateNumbers, dateText}
 
 -- Reading a code: what is returned, its place, and the array after it.
 pub record Reads (A : Type 0) (numbersOf : A → List ℕ) (answer : Answer A) (before : List ℕ) (returned placed : ℕ) (after : List ℕ) : Type 0 where
@@ -30,8 +30,8 @@ pub record TellsSet (issue : ℕ) (cells before after : List ℕ) (returned coun
   pub returns : returned ≡ number (said answer)
   pub counts : count ≡ orCount (said answer) counted
 
--- Making a date.
-pub record Makes (made : Made) (numbers₀ text₀ : List ℕ) (returned : ℕ) (numbers written : List ℕ) : Type 0 where
-  pub returns : returned ≡ madeNumber made
-  pub leaves : numbers ≡ madeNumbers made numbers₀
-  pub writes : written ≡ madeText made text₀
+-- Making a date: "no such day or year is 27".
+pub record Makes (made : Answer Date) (numbers₀ text₀ : List ℕ) (returned : ℕ) (numbers written : List ℕ) : Type 0 where
+  pub returns : returned ≡ number made
+  pub leaves : numbers ≡ orBefore dateNumbers made numbers₀
+  pub writes : written ≡ orBefore dateText made text₀

@@ -12,8 +12,9 @@ ghost use Rattle.supplement.specs.Supplement.{readSupplement};
 ghost use Rattle.supplement.specs.declared.Supplement.{Supplement};
 ghost use Rattle.days.specs.Run.{readRun};
 ghost use Rattle.days_writer.specs.Set.{said};
+ghost use Rattle.date.specs.Date.{said as saidDate};
 ghost use Rattle.plain.specs.Codes.{usageNumbers, instructionOf, supplementNumbers, supplementOf};
-ghost use Rattle.code_calls.specs.Answers.{number, orCount, makeStyled, madeNumber, madeNumbers, madeText};
+ghost use Rattle.code_calls.specs.Answers.{number, orBefore, orCount, makeStyled, dateNumbers, dateText};
 ghost use Rattle.code_calls.specs.Calls.{Reads, ReadsRun, TellsSet, Makes};
 
 // ---- usage codes
@@ -129,7 +130,7 @@ pub fn set_write(issue: u8, days: &[u32; 13], out: &mut [u8], count: &mut u64) -
 
 // A date in a style: 1 western, 2 era, any other number for none named.
 fn made(year: u16, month: u8, day: u8, style: u8) -> Made
-    ensures { λ r. ⌜ r ≡ makeStyled year month day style ⌝ }
+    ensures { λ r. ⌜ saidDate r ≡ makeStyled year month day style ⌝ }
 {
     if style == 1 {
         return Date::western(year, month, day);
@@ -141,7 +142,7 @@ fn made(year: u16, month: u8, day: u8, style: u8) -> Made
 }
 
 fn made_number(m: Made) -> u8
-    ensures { λ r. ⌜ r ≡ madeNumber m ⌝ }
+    ensures { λ r. ⌜ r ≡ number (saidDate m) ⌝ }
 {
     match m {
         Made::Day(_) => 0,
@@ -150,7 +151,7 @@ fn made_number(m: Made) -> u8
 }
 
 fn made_numbers(m: Made, before: [u64; 4]) -> [u64; 4]
-    ensures { λ r. ⌜ r ≡ madeNumbers m before ⌝ }
+    ensures { λ r. ⌜ r ≡ orBefore dateNumbers (saidDate m) before ⌝ }
 {
     match m {
         Made::Day(t) => [t.era as u64, t.year as u64, t.month as u64, t.day as u64],
@@ -159,7 +160,7 @@ fn made_numbers(m: Made, before: [u64; 4]) -> [u64; 4]
 }
 
 fn made_text(m: Made, before: [u8; 8]) -> [u8; 8]
-    ensures { λ r. ⌜ r ≡ madeText m before ⌝ }
+    ensures { λ r. ⌜ r ≡ orBefore dateText (saidDate m) before ⌝ }
 {
     match m {
         Made::Day(t) => {

@@ -14,19 +14,27 @@ use lib.ListN.{length, getD, take, drop}
 use Rattle.number.specs.Number.{figure, figures, value}
 use Rattle.cells.proofs.Split.{split}
 use Rattle.number.proofs.Sizes.{figures-parts}
-use Rattle.date.specs.Date.{leap, lastDay, exists, eraAdds, date, inStyle, isDate, western, eraDate, held, readDate, latestEra, makeWestern, makeEra, makeDate}
-use Rattle.date.specs.Print.{inWestern, inEra, printDate}
-use Rattle.date.specs.declared.Date.{Date}
+use Rattle.cells.specs.Test.{Answer, took}
 use Rattle.date.specs.declared.Made.{Made}
 use Rattle.date.specs.declared.Made.the-variants.{Day, None}
+use Rattle.date.specs.Date.{none, said, leap, lastDay, exists, eraAdds, date, inStyle, isDate, western, eraDate, held, readDate, latestEra, makeWestern, makeEra, makeDate}
+use Rattle.date.specs.Print.{inWestern, inEra, printDate}
+use Rattle.date.specs.declared.Date.{Date}
 use Rattle.date.proofs.Digits.{figure-last}
 use Rattle.date.proofs.Style.{read-none, read-other, read-eight, read-seven, print-eight, print-seven, numbers, western-year, era-year}
 
-never : {A : Type 0} {t : Date} → None ≡ Day t → A
+-- Two answers of which document 01's number and values are the same are equal.
+pub one-made : (a b : Made) → said a ≡ said b → a ≡ b
+one-made (Day t) (Day u) e = cc
+one-made (Day t) None e = cc
+one-made None (Day u) e = cc
+one-made None None e = refl
+
+never : {A : Type 0} {t : Date} → none ≡ took t → A
 never h = absurd (let z : _≡_ {A = ℕ} 0 1 = cc in omega arith)
 
-kept : (t u : Date) → held t ≡ Day u → (isDate t ≡ true) × (t ≡ u)
-kept t u h = split (isDate t) (λ e. let k : Day t ≡ Day u = simp e at h in (e, cc)) (λ e. never (simp e at h))
+kept : (t u : Date) → held t ≡ took u → (isDate t ≡ true) × (t ≡ u)
+kept t u h = split (isDate t) (λ e. let k : took t ≡ took u = simp e at h in (e, cc)) (λ e. never (simp e at h))
 
 -- ---- digits, read and written again
 -- a byte that is a digit
@@ -100,9 +108,9 @@ era-back s h l =
     subst (λ (t : List ℕ). figures t ≡ true → inEra (eraDate t) ≡ t) (sym (spelled 7 s l)) (era-digits _ _ _ _ _ _ _) h
 
 -- ---- the styles of a field that reads as a date
-styles : {P : Type 0} (s : List ℕ) (t : Date) → readDate s ≡ Day t →
-    (figures s ≡ true → length s ≡ 8 → held (western s) ≡ Day t → P) →
-    (figures s ≡ true → length s ≡ 7 → 1 ≤ value 0 (take 1 s) → held (eraDate s) ≡ Day t → P) → P
+styles : {P : Type 0} (s : List ℕ) (t : Date) → readDate s ≡ took t →
+    (figures s ≡ true → length s ≡ 8 → held (western s) ≡ took t → P) →
+    (figures s ≡ true → length s ≡ 7 → 1 ≤ value 0 (take 1 s) → held (eraDate s) ≡ took t → P) → P
 styles {P} s t h west inera =
     split (figures s)
     (λ f. split (eqb (length s) 8)
@@ -115,18 +123,18 @@ styles {P} s t h west inera =
     (λ f. never (sym (read-none s f) ∙ h))
 
 -- A field that reads as a date is what the date is written as.
-pub back : (s : List ℕ) (t : Date) → readDate s ≡ Day t → printDate t ≡ s
+pub back : (s : List ℕ) (t : Date) → readDate s ≡ took t → printDate t ≡ s
 back s t h =
     styles s t h
     (λ f l k. let p = kept (western s) t k in ap printDate (sym (p .1)) ∙ print-eight (western s) (p .0) refl ∙ western-back s f l)
     (λ f l o k. let p = kept (eraDate s) t k in ap printDate (sym (p .1)) ∙ print-seven (eraDate s) (p .0) (omega arith) ∙ era-back s f l)
 
 -- So what a date that some field reads as is written as reads as the date,
-pub again : (s : List ℕ) (t : Date) → readDate s ≡ Day t → readDate (printDate t) ≡ Day t
+pub again : (s : List ℕ) (t : Date) → readDate s ≡ took t → readDate (printDate t) ≡ took t
 again s t h = ap readDate (back s t h) ∙ h
 
 -- and two fields that read as one date are one field.
-pub one-date : (s u : List ℕ) (t : Date) → readDate s ≡ Day t → readDate u ≡ Day t → s ≡ u
+pub one-date : (s u : List ℕ) (t : Date) → readDate s ≡ took t → readDate u ≡ took t → s ≡ u
 one-date s u t h k = sym (back s t h) ∙ back u t k
 
 -- ---- what is a date can be written
@@ -138,7 +146,7 @@ four-again n h =
     let f : n ≡ n / 10 * 10 + n % 10 = omega arith in
     omega arith
 
-western-again : (t : Date) → isDate t ≡ true → t .era ≡ 0 → readDate (inWestern t) ≡ Day t
+western-again : (t : Date) → isDate t ≡ true → t .era ≡ 0 → readDate (inWestern t) ≡ took t
 unfolding figures value
 western-again t h e =
     let n = numbers t h in
@@ -150,7 +158,7 @@ western-again t h e =
     let w : western (inWestern t) ≡ t = λ i. record { era = sym e i; year = p i; month = q i; day = r i } in
     read-eight (inWestern t) k refl ∙ ap held w ∙ rw h
 
-era-again : (t : Date) → isDate t ≡ true → (t .era ≡ 0 → ⊥) → readDate (inEra t) ≡ Day t
+era-again : (t : Date) → isDate t ≡ true → (t .era ≡ 0 → ⊥) → readDate (inEra t) ≡ took t
 unfolding figures value
 era-again t h e =
     let n = numbers t h in
@@ -165,7 +173,7 @@ era-again t h e =
     read-seven (inEra t) k refl ∙ rw (le-leb 1 (eraDate (inEra t) .era) (omega arith)) (ap held w ∙ rw h)
 
 -- Every date is written as a field that reads as the date.
-pub written : (t : Date) → isDate t ≡ true → readDate (printDate t) ≡ Day t
+pub written : (t : Date) → isDate t ≡ true → readDate (printDate t) ≡ took t
 written t h =
     split (eqb (t .era) 0)
     (λ e. let z = eqb-true (t .era) 0 e in ap readDate (print-eight t h z) ∙ western-again t h z)
@@ -173,28 +181,28 @@ written t h =
 
 -- So is what a caller makes, in western style, in era style, or with no style named.
 module _ (y m d : ℕ) (t : Date) where
-  pub made-western : makeWestern y m d ≡ Day t → readDate (printDate t) ≡ Day t
+  pub made-western : makeWestern y m d ≡ took t → readDate (printDate t) ≡ took t
   unfolding makeWestern
   made-western h = let k = kept _ t h in written t (ap isDate (sym (k .1)) ∙ k .0)
 
-  pub made-era : makeEra y m d ≡ Day t → readDate (printDate t) ≡ Day t
+  pub made-era : makeEra y m d ≡ took t → readDate (printDate t) ≡ took t
   unfolding makeEra
   made-era h = let k = kept _ t h in written t (ap isDate (sym (k .1)) ∙ k .0)
 
-  pub made : makeDate y m d ≡ Day t → readDate (printDate t) ≡ Day t
+  pub made : makeDate y m d ≡ took t → readDate (printDate t) ≡ took t
   unfolding makeDate
   made h = made-era h
 
 -- Fields, and what is read from them: nothing, or the style, the year, the month and the day.
 pub record Row : Type 0 where
   pub field : String
-  pub reads : Made
+  pub reads : Answer Date
 
-abbrev row : String → Made → Row
+abbrev row : String → Answer Date → Row
 row s r = record { field = s; reads = r }
 
-abbrev day : ℕ → ℕ → ℕ → ℕ → Made
-day e y m d = Day (date e y m d)
+abbrev day : ℕ → ℕ → ℕ → ℕ → Answer Date
+day e y m d = took (date e y m d)
 
 abbrev bytes : String → List ℕ
 bytes nil = []
@@ -210,18 +218,18 @@ fields =
     row "4300702" (day 4 2018 7 2) ∷
     row "3640110" (day 3 1989 1 10) ∷
     row "4991231" (day 4 2087 12 31) ∷
-    row "19000229" None ∷
-    row "18671231" None ∷
-    row "21000101" None ∷
-    row "20181232" None ∷
-    row "20181301" None ∷
-    row "20180700" None ∷
-    row "0010101" None ∷
-    row "5010101" None ∷
-    row "1000101" None ∷
-    row "2018072" None ∷
-    row "2018 702" None ∷
-    row "" None ∷
+    row "19000229" none ∷
+    row "18671231" none ∷
+    row "21000101" none ∷
+    row "20181232" none ∷
+    row "20181301" none ∷
+    row "20180700" none ∷
+    row "0010101" none ∷
+    row "5010101" none ∷
+    row "1000101" none ∷
+    row "2018072" none ∷
+    row "2018 702" none ∷
+    row "" none ∷
     []
 
 pub fields-right : map (λ r. readDate (bytes (r .field))) fields ≡ map (λ r. r .reads) fields
@@ -230,7 +238,7 @@ fields-right = refl
 
 -- "The latest era whose year 01 is not after it; from 2088, which no era year reaches, western style."
 pub eras-right : map (λ y. makeDate y 1 1) (1867 ∷ 1868 ∷ 1911 ∷ 1912 ∷ 1925 ∷ 1926 ∷ 1988 ∷ 1989 ∷ 2087 ∷ 2088 ∷ 2099 ∷ 2100 ∷ []) ≡
-    None ∷ day 1 1868 1 1 ∷ day 1 1911 1 1 ∷ day 2 1912 1 1 ∷ day 2 1925 1 1 ∷ day 3 1926 1 1 ∷ day 3 1988 1 1 ∷ day 4 1989 1 1 ∷ day 4 2087 1 1 ∷
-    day 0 2088 1 1 ∷ day 0 2099 1 1 ∷ None ∷ []
+    none ∷ day 1 1868 1 1 ∷ day 1 1911 1 1 ∷ day 2 1912 1 1 ∷ day 2 1925 1 1 ∷ day 3 1926 1 1 ∷ day 3 1988 1 1 ∷ day 4 1989 1 1 ∷ day 4 2087 1 1 ∷
+    day 0 2088 1 1 ∷ day 0 2099 1 1 ∷ none ∷ []
 unfolding makeDate makeEra latestEra isDate inStyle exists lastDay leap eraAdds
 eras-right = refl

@@ -11,20 +11,19 @@ use lib.ListN.{length, getD, take}
 use Rattle.number.specs.Number.{figures, value}
 use Rattle.cells.proofs.Split.{split}
 use Rattle.cells.proofs.Alike.{and-parts}
-use Rattle.date.specs.Date.{leap, lastDay, exists, eraAdds, date, inStyle, isDate, two, western, eraDate, held, readDate}
+use Rattle.date.specs.Date.{none, leap, lastDay, exists, eraAdds, date, inStyle, isDate, two, western, eraDate, held, readDate}
 use Rattle.date.specs.Print.{inWestern, inEra, printDate}
 use Rattle.date.specs.declared.Date.{Date}
-use Rattle.date.specs.declared.Made.the-variants.{None}
 use Rattle.date.proofs.Digits.{first-value, four-value}
 
 -- ---- reading, by the length
 module _ (s : List ℕ) where
-  pub read-none : figures s ≡ false → readDate s ≡ None
+  pub read-none : figures s ≡ false → readDate s ≡ none
   unfolding readDate
   read-none h = rw h
 
   module _ (h : figures s ≡ true) where
-    pub read-other : (length s ≡ 8 → ⊥) → (length s ≡ 7 → ⊥) → readDate s ≡ None
+    pub read-other : (length s ≡ 8 → ⊥) → (length s ≡ 7 → ⊥) → readDate s ≡ none
     unfolding readDate
     read-other e f = rw (h, ne-eqb (length s) 8 e, ne-eqb (length s) 7 f)
 
@@ -32,12 +31,12 @@ module _ (s : List ℕ) where
     unfolding readDate
     read-eight e = rw (h, eq-eqb (length s) 8 e)
 
-    pub read-seven : length s ≡ 7 → readDate s ≡ cond (leb 1 (value 0 (take 1 s))) (held (eraDate s)) None
+    pub read-seven : length s ≡ 7 → readDate s ≡ cond (leb 1 (value 0 (take 1 s))) (held (eraDate s)) none
     unfolding readDate
     read-seven e = rw (h, e)
 
     -- the first of seven digits is 0
-    pub read-zero : length s ≡ 7 → getD s 0 0 - 48 ≡ 0 → readDate s ≡ None
+    pub read-zero : length s ≡ 7 → getD s 0 0 - 48 ≡ 0 → readDate s ≡ none
     read-zero e z = read-seven e ∙ rw (first-value s (omega arith), z)
 
     -- or it is the era

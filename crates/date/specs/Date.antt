@@ -5,6 +5,7 @@ use mathlib.Core.Bool.{Bool, cond, not, _&&_, _||_}
 use mathlib.Core.List.{List, [], _∷_}
 use lib.Dec.{leb, eqb}
 use lib.ListN.{length, getD, take, drop}
+use Rattle.cells.specs.Test.{Answer, took, refused}
 use Rattle.number.specs.Number.{figures, value}
 use Rattle.date.specs.declared.Date.{Date}
 use Rattle.date.specs.declared.Made.{Made}
@@ -52,16 +53,25 @@ western s = date 0 (value 0 (take 4 s)) (two s 4) (two s 6)
 abbrev pub eraDate : List ℕ → Date
 eraDate s = date (value 0 (take 1 s)) (eraAdds (value 0 (take 1 s)) + two s 1) (two s 3) (two s 5)
 
--- "No such day or year is 27."
-abbrev pub held : Date → Made
-held t = cond (isDate t) (Day t) None
+-- "No such day or year is 27, place 0."
+abbrev pub none : Answer Date
+none = refused 27 0
+
+-- Document 01's number and values of what a date is read or made as.
+abbrev pub said : Made → Answer Date
+said (Day t) = took t
+said None = none
+
+-- The date, where it is one.
+abbrev pub held : Date → Answer Date
+held t = cond (isDate t) (took t) none
 
 -- Eight digits are western style, seven are era style with an era 1 to 4.
-unfoldable pub readDate : List ℕ → Made
+unfoldable pub readDate : List ℕ → Answer Date
 readDate s =
     cond (figures s)
-    (cond (eqb (length s) 8) (held (western s)) (cond (eqb (length s) 7 && leb 1 (value 0 (take 1 s))) (held (eraDate s)) None))
-    None
+    (cond (eqb (length s) 8) (held (western s)) (cond (eqb (length s) 7 && leb 1 (value 0 (take 1 s))) (held (eraDate s)) none))
+    none
 
 -- "The latest era whose year 01 is not after it; from 2088, which no era year reaches, western style."
 unfoldable pub latestEra : ℕ → ℕ
@@ -70,13 +80,13 @@ latestEra y =
     (cond (leb (eraAdds 4 + 1) y) 4 (cond (leb (eraAdds 3 + 1) y) 3 (cond (leb (eraAdds 2 + 1) y) 2 (cond (leb (eraAdds 1 + 1) y) 1 0))))
 
 -- What a caller makes by naming western style,
-unfoldable pub makeWestern : ℕ → ℕ → ℕ → Made
+unfoldable pub makeWestern : ℕ → ℕ → ℕ → Answer Date
 makeWestern y m d = held (date 0 y m d)
 
 -- "A caller who makes a date without naming one, or names era style, gets the latest era."
-unfoldable pub makeEra : ℕ → ℕ → ℕ → Made
+unfoldable pub makeEra : ℕ → ℕ → ℕ → Answer Date
 makeEra y m d = held (date (latestEra y) y m d)
 
 -- and with no style named
-unfoldable pub makeDate : ℕ → ℕ → ℕ → Made
+unfoldable pub makeDate : ℕ → ℕ → ℕ → Answer Date
 makeDate y m d = makeEra y m d

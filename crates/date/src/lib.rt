@@ -4,7 +4,7 @@ ghost use mathlib.Core.Bool.{true};
 ghost use Prim.Native.Nat.{_+_, _%_, _≤_};
 ghost use lib.ListN.{length};
 ghost use Rattle.number.specs.Number.{figures as figuresOf};
-ghost use Rattle.date.specs.Date.{leap as leapOf, lastDay, exists as existsOf, eraAdds, inStyle, isDate, held as heldOf, two as twoOf, readDate, latestEra, makeWestern, makeEra, makeDate};
+ghost use Rattle.date.specs.Date.{leap as leapOf, lastDay, exists as existsOf, eraAdds, inStyle, isDate, said, held as heldOf, two as twoOf, readDate, latestEra, makeWestern, makeEra, makeDate};
 ghost use Rattle.date.specs.Print.{figure as figureOf, inWestern, inEra, printDate, text};
 
 // A day, and the style that it is written in: era 0 is western style, 1 to 4 are the eras. The year is the western one.
@@ -42,7 +42,7 @@ impl Date {
 
     // A date in western style.
     pub fn western(year: u16, month: u8, day: u8) -> Made
-        ensures { λ r. ⌜ r ≡ makeWestern year month day ⌝ }
+        ensures { λ r. ⌜ said r ≡ makeWestern year month day ⌝ }
     {
         held(Date {
             era: 0,
@@ -54,7 +54,7 @@ impl Date {
 
     // A date in the latest era; in western style where no era year reaches it.
     pub fn era(year: u16, month: u8, day: u8) -> Made
-        ensures { λ r. ⌜ r ≡ makeEra year month day ⌝ }
+        ensures { λ r. ⌜ said r ≡ makeEra year month day ⌝ }
     {
         held(Date {
             era: latest_era(year),
@@ -66,7 +66,7 @@ impl Date {
 
     // A date with no style named.
     pub fn of(year: u16, month: u8, day: u8) -> Made
-        ensures { λ r. ⌜ r ≡ makeDate year month day ⌝ }
+        ensures { λ r. ⌜ said r ≡ makeDate year month day ⌝ }
     {
         Date::era(year, month, day)
     }
@@ -131,7 +131,7 @@ fn is_date(t: Date) -> bool
 }
 
 fn held(t: Date) -> Made
-    ensures { λ r. ⌜ r ≡ heldOf t ⌝ }
+    ensures { λ r. ⌜ said r ≡ heldOf t ⌝ }
 {
     if is_date(t) {
         return Made::Day(t);
@@ -178,7 +178,7 @@ fn wide(n: u8) -> u16
 // Eight digits, YYYYMMDD.
 fn read_western(s: &[u8]) -> Made
     requires { ⌜ (figuresOf (now s) ≡ true) × (length (now s) ≡ 8) ⌝ }
-    ensures { λ r. ⌜ r ≡ readDate (now (s .entry)) ⌝ }
+    ensures { λ r. ⌜ said r ≡ readDate (now (s .entry)) ⌝ }
 {
     held(Date {
         era: 0,
@@ -191,7 +191,7 @@ fn read_western(s: &[u8]) -> Made
 // Seven digits: era, two-digit year, MMDD.
 fn read_era(s: &[u8]) -> Made
     requires { ⌜ (figuresOf (now s) ≡ true) × (length (now s) ≡ 7) ⌝ }
-    ensures { λ r. ⌜ r ≡ readDate (now (s .entry)) ⌝ }
+    ensures { λ r. ⌜ said r ≡ readDate (now (s .entry)) ⌝ }
 {
     let era = s[0] - b'0';
     if era == 0 {
@@ -207,7 +207,7 @@ fn read_era(s: &[u8]) -> Made
 
 // A field's date.
 pub fn read(s: &[u8]) -> Made
-    ensures { λ r. ⌜ r ≡ readDate (now (s .entry)) ⌝ }
+    ensures { λ r. ⌜ said r ≡ readDate (now (s .entry)) ⌝ }
 {
     if !number::figures(s) {
         return Made::None;

@@ -11,10 +11,9 @@ use borrow.Author.Tests.{eq-eqb, ne-eqb, eqb-true, eqb-false, leb-true, ltb-true
 use lib.Dec.{eqb, leb, ltb}
 use lib.ListN.{length, getD, drop, drop-of-length-le}
 use lib.Seq.{drop-cons}
-use Rattle.cells.specs.Text.{among, index, digit}
+use Rattle.cells.specs.Text.{among, index, digit, letter}
 use Rattle.cells.specs.Test.{Test, test, first, took, refused}
 use Rattle.cells.specs.Cells.{char, Cell, cells}
-use Rattle.cells.specs.Code.Mask.{letter}
 use Rattle.cells.proofs.Split.{split}
 use Rattle.cells.proofs.Alike.{each}
 use Rattle.cells.proofs.Back.{passed, taken}

@@ -8,7 +8,7 @@ use native.Mathlib.Nat.{add-zero, suc-add, add-suc}
 use native.Mathlib.Numerals.{add-one}
 use lib.ListN.{length, set, take, drop, length-append, length-drop}
 use lib.Seq.{sets, drop-drop}
-use Rattle.cells.specs.Code.Mask.{letter}
+use Rattle.cells.specs.Text.{letter}
 use Rattle.days.specs.Run.{Code}
 use Rattle.days.specs.Code.Good.{column, pad, codeBytes}
 use Rattle.days_writer.specs.Code.Mask.{since}

@@ -9,10 +9,9 @@ use borrow.Author.Tests.{ne-eqb, eqb-true, le-leb, lt-ltb}
 use lib.Dec.{eqb}
 use lib.ListN.{length, getD, drop}
 use lib.Seq.{drop-drop, getD-drop}
-use Rattle.cells.specs.Text.{among, index, digit}
+use Rattle.cells.specs.Text.{among, index, digit, letter}
 use Rattle.cells.specs.Test.{fault, first, took}
 use Rattle.cells.specs.Cells.{char, Cell, cells}
-use Rattle.cells.specs.Code.Mask.{letter}
 use Rattle.supplement.specs.Supplement.{to31, lastDay, moreDays, tests, says, readSupplement}
 use Rattle.supplement.specs.declared.Supplement.{Supplement}
 use Rattle.days.specs.Run.{Code, upto0, codeOf}

@@ -12,7 +12,7 @@ use Rattle.cells.proofs.Split.{split as cases}
 use Rattle.line.specs.Frame.{file}
 use Rattle.line.specs.Fields.{split}
 use Rattle.supplement.specs.declared.Supplement.{Supplement}
-use Rattle.order.specs.Code.Next.{closes}
+use Rattle.order.specs.Next.{closes}
 use Rattle.schedule.specs.Schedule.{list}
 use Rattle.field.specs.declared.Sofar.{Sofar}
 use Rattle.record.specs.Record.{start, after, supplements}

@@ -15,7 +15,7 @@ use Rattle.line.specs.Frame.{plain, file}
 use Rattle.line.specs.Fields.{split}
 use Rattle.supplement.specs.declared.Supplement.{Supplement}
 use Rattle.order.specs.Order.{Begins, Sheet, lastOf}
-use Rattle.order.specs.Code.Next.{follow, closes}
+use Rattle.order.specs.Next.{follow, closes}
 use Rattle.order.proofs.Laws.{at-start, last-is, closing, stands}
 use Rattle.schedule.specs.Schedule.{list}
 use Rattle.field.specs.Field.{wrong, readField}

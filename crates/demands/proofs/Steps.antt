@@ -21,7 +21,7 @@ use Rattle.date.proofs.Laws as dates
 use Rattle.supplement.specs.Supplement.{readSupplement}
 use Rattle.supplement.specs.declared.Supplement.{Supplement}
 use Rattle.order.specs.Order.{some, among, header, directions, drug, records}
-use Rattle.order.specs.Code.Next.{stops, anew, may, refusal, follow}
+use Rattle.order.specs.Next.{stops, anew, may, refusal, follow}
 use Rattle.order.proofs.Bools.{both}
 use Rattle.order.proofs.Chain.{step, risen, begun}
 use Rattle.field.specs.Field.{isDay}

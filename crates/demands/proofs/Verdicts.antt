@@ -14,7 +14,7 @@ use Rattle.line.specs.Frame.{plainLine, plainLines, file}
 use Rattle.line.specs.Fields.{split}
 use Rattle.supplement.specs.declared.Supplement.{Supplement}
 use Rattle.order.specs.Order.{Begins, Verdict, lastOf}
-use Rattle.order.specs.Code.Next.{follow, closes}
+use Rattle.order.specs.Next.{follow, closes}
 use Rattle.order.proofs.Laws.{at-start, last-is, judged, stands}
 use Rattle.order.proofs.Laws as order
 use Rattle.schedule.specs.Schedule.{list}

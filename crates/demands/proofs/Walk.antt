@@ -13,7 +13,7 @@ use lib.Seq.{append-snoc}
 use Rattle.cells.proofs.Split.{split as cases}
 use Rattle.line.specs.Fields.{split}
 use Rattle.supplement.specs.declared.Supplement.{Supplement}
-use Rattle.order.specs.Code.Next.{follow, closes}
+use Rattle.order.specs.Next.{follow, closes}
 use Rattle.order.proofs.Bools.{clash}
 use Rattle.schedule.specs.Schedule.{list}
 use Rattle.schedule.proofs.Laws.{nothing-kept}

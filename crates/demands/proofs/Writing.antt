@@ -10,8 +10,8 @@ use lib.Dec.{leb}
 use lib.ListN.{length, take, drop, length-append}
 use lib.Seq.{take-at, drop-at, length-take-le}
 use Rattle.cells.specs.Text.{bytes}
-use Rattle.order.specs.Code.Next.{closes}
-use Rattle.schedule.specs.Code.Kept.{mayJoin}
+use Rattle.order.specs.Next.{closes}
+use Rattle.schedule.specs.Kept.{mayJoin}
 use Rattle.field.specs.declared.Sofar.{Sofar}
 use Rattle.record.specs.Record.{start, after}
 use Rattle.record_line.specs.Line.{readParts}

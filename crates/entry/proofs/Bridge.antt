@@ -14,7 +14,7 @@ use Rattle.number.specs.Number.{figure, figures, value, shortest, readNumber}
 use Rattle.number.specs.Print.{digits, printNumber}
 use Rattle.supplement.specs.declared.Supplement.{Supplement}
 use Rattle.order.specs.Order.{some, each, among, header, directions, drug, records}
-use Rattle.order.specs.Code.Next.{follow}
+use Rattle.order.specs.Next.{follow}
 use Rattle.order.proofs.Lists.{every}
 use Rattle.field.specs.Field.{free, text, readField}
 use Rattle.field.specs.declared.Rule.{Rule}

@@ -8,13 +8,12 @@ use native.Mathlib.Omega.{arith}
 use borrow.Author.Tests.{ltb-true, ltb-false, eqb-true, eqb-false, ne-eqb, le-leb, lt-leb}
 use lib.Dec.{eqb, leb, ltb}
 use lib.ListN.{length, getD, length-append, List·getD-append}
-use Rattle.cells.specs.Test.{test, fault, first}
+use Rattle.cells.specs.Test.{test, fault, first, took}
 use Rattle.cells.proofs.Split.{split as cases}
-use Rattle.number.specs.Number.{figure, figures, shortest, readNumber}
+use Rattle.number.specs.Number.{none, figure, figures, shortest, readNumber}
 use Rattle.number.specs.Print.{digits, printNumber}
-use Rattle.number.specs.declared.Number.the-variants.{Is, Not}
 use Rattle.supplement.specs.declared.Supplement.{Supplement}
-use Rattle.field.specs.Field.{forbidden, present, fits, isNumber, valued, ordered, codeFault, listed, wrong, readField}
+use Rattle.field.specs.Field.{forbidden, present, fits, isTaken, valued, ordered, codeFault, listed, wrong, readField}
 use Rattle.field.specs.declared.Rule.{Rule}
 use Rattle.field.specs.declared.Sofar.{Sofar}
 use Rattle.field.proofs.Characters.{filled-is}
@@ -77,12 +76,12 @@ mark-is n =
     (λ e. rw (e, ne-eqb (length (printNumber n)) 1 (λ z. omega (arith, long n (ltb-false _ _ e)))))
 
 -- ---- the tests of a number's field
-is-number : (b : Bool) (k : ℕ) → isNumber (cond b (Is k) Not) ≡ b
+is-number : (b : Bool) (k : ℕ) → isTaken (cond b (took k) none) ≡ b
 is-number true k = refl
 is-number false k = refl
 
 module _ (joins : Supplement → Bool) (c : Sofar) (r : Rule) (n : ℕ) (l : 7 ≤ r .form) (m : eqb (r .need) forbidden ≡ false) where
-  in-range : isNumber (readNumber (r .lo) (r .hi) (printNumber n)) ≡ leb (r .lo) n && leb n (r .hi)
+  in-range : isTaken (readNumber (r .lo) (r .hi) (printNumber n)) ≡ leb (r .lo) n && leb n (r .hi)
   unfolding readNumber
   in-range = rw (number-shortest n, number-value n) (is-number (leb (r .lo) n && leb n (r .hi)) n)
 

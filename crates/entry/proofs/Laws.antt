@@ -10,7 +10,7 @@ use lib.Dec.{eqb}
 use lib.ListN.{length, getD, take, replicate, length-map}
 use lib.Seq.{take-append-seam}
 use Rattle.cells.specs.Text.{bytes}
-use Rattle.cells.specs.Code.Same.{eqs}
+use Rattle.cells.specs.Same.{eqs}
 use Rattle.cells.proofs.Split.{split as cases}
 use Rattle.line.specs.Fields.{split, join}
 use Rattle.line.proofs.Laws.{join-split}

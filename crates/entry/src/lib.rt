@@ -23,7 +23,7 @@ ghost use Rattle.laid.specs.Laid.{noField, textOr, laid};
 ghost use Rattle.printed.specs.Printed.{piece};
 ghost use Rattle.field.specs.Field.{readField};
 ghost use Rattle.line.specs.Fields.{split};
-ghost use Rattle.schedule.specs.Code.Kept.{mayJoin};
+ghost use Rattle.schedule.specs.Kept.{mayJoin};
 ghost use Rattle.record.specs.declared.Record.the-variants.{Issue, Rp, Usage, Supplement as Supply, Drug, Kept as KeptRecord};
 ghost use Rattle.held.specs.Held.{usageValue, supplementValue, print};
 ghost use Rattle.entry.specs.Entry.{kindOf, optionalPart, entryOf};

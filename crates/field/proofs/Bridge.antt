@@ -13,16 +13,14 @@ use Rattle.cells.specs.declared.Fault.{Fault}
 use Rattle.cells.proofs.Split.{split}
 use Rattle.cells.proofs.Alike.{and-parts}
 use Rattle.text.specs.Text.{textUpto}
-use Rattle.number.specs.Number.{value, shortest, readNumber}
+use Rattle.number.specs.Number.{none as noNumber, value, shortest, readNumber}
 use Rattle.number.specs.Amount.{amount, hundredThousandths, before, after, readAmount}
-use Rattle.number.specs.declared.Number.{Number}
-use Rattle.number.specs.declared.Number.the-variants.{Is, Not}
 use Rattle.date.specs.Date.{readDate}
 use Rattle.usage.specs.Usage.{frame, timing, says as usageSays, readUsage}
 use Rattle.usage.specs.declared.Instruction.{Instruction}
 use Rattle.supplement.specs.Supplement.{tests, says as supplementSays, readSupplement}
 use Rattle.supplement.specs.declared.Supplement.{Supplement}
-use Rattle.field.specs.Field.{present, fits, isNumber, isDay, isDrugCode, isSite, numberOf, valued, ordered, faultIn, codeFault, joined, listed, filled, wrong, right, refusedWith, readField}
+use Rattle.field.specs.Field.{present, fits, isTaken, isDrugCode, isSite, numberOf, valued, ordered, faultIn, codeFault, joined, listed, filled, wrong, right, refusedWith, readField}
 use Rattle.field.specs.Code.Read.{usageFault, supplementFault, codeWrong, formedIf, amountField, readBy, readFilled}
 use Rattle.field.specs.declared.Rule.{Rule}
 use Rattle.field.specs.declared.Sofar.{Sofar}
@@ -129,9 +127,9 @@ module _ (joins : Supplement → Bool) (c : Sofar) (r : Rule) (f : List ℕ) whe
   unfolding fits valued
   as-drug-code z a = plain (omega arith) (simp (z, a)) (isDrugCode f) (simp z)
 
-  pub as-date : r .form ≡ 2 → readFilled joins c r f ≡ formedIf (isDay (readDate f))
+  pub as-date : r .form ≡ 2 → readFilled joins c r f ≡ formedIf (isTaken (readDate f))
   unfolding fits valued
-  as-date z = plain (omega arith) (simp z) (isDay (readDate f)) (simp z)
+  as-date z = plain (omega arith) (simp z) (isTaken (readDate f)) (simp z)
 
   pub as-site : r .form ≡ 3 → readFilled joins c r f ≡ formedIf (isSite f)
   unfolding fits valued
@@ -161,15 +159,15 @@ module _ (joins : Supplement → Bool) (c : Sofar) (r : Rule) (f : List ℕ) whe
       (λ e. let k : r .form ≡ 4 → ⊥ = eqb-false _ _ e in simp e (as-supplement (omega arith)))
 
 -- a number in two bytes
-in-range : (lo hi m : ℕ) (f : List ℕ) → hi < 65536 → readNumber lo hi f ≡ Is m → numberOf f ≡ m % 65536
+in-range : (lo hi m : ℕ) (f : List ℕ) → hi < 65536 → readNumber lo hi f ≡ took m → numberOf f ≡ m % 65536
 unfolding readNumber
 in-range lo hi m f small h =
     split (shortest f && (leb lo (value 0 f) && leb (value 0 f) hi))
-    (λ e. let k : Is (value 0 f) ≡ Is m = simp e at h in
+    (λ e. let k : took (value 0 f) ≡ took m = simp e at h in
     let v : value 0 f ≡ m = cc in
     let l : value 0 f ≤ hi = leb-true _ _ (and-parts (leb lo (value 0 f)) _ (and-parts (shortest f) _ e .1) .1) in
     omega arith)
-    (λ e. let k : Not ≡ Is m = simp e at h in absurd (let z : _≡_ {A = ℕ} 0 1 = cc in omega arith))
+    (λ e. let k : noNumber ≡ took m = simp e at h in absurd (let z : _≡_ {A = ℕ} 0 1 = cc in omega arith))
 
 -- a number, and where it is a code kind not 5
 pub but-five : (kind five x : Bool) → cond kind (x && not five) x ≡ x && not (kind && five)
@@ -182,7 +180,7 @@ module _ (joins : Supplement → Bool) (c : Sofar) (r : Rule) (f : List ℕ) (l 
   unfolding fits
   number-fits = simp (lt-leb (r .form) 1 (omega arith))
 
-  number-valued : (x : Number) → readNumber (r .lo) (r .hi) f ≡ x → valued r f ≡ isNumber x && not (eqb (r .form) 8 && eqb (numberOf f) 5)
+  number-valued : (x : Answer ℕ) → readNumber (r .lo) (r .hi) f ≡ x → valued r f ≡ isTaken x && not (eqb (r .form) 8 && eqb (numberOf f) 5)
   unfolding valued
   number-valued x h =
       simp (
@@ -194,14 +192,14 @@ module _ (joins : Supplement → Bool) (c : Sofar) (r : Rule) (f : List ℕ) (l 
         ne-eqb (r .form) 6 (λ z. omega arith),
         h,
       )
-      (but-five (eqb (r .form) 8) (eqb (numberOf f) 5) (isNumber x))
+      (but-five (eqb (r .form) 8) (eqb (numberOf f) 5) (isTaken x))
 
-  pub no-number : readNumber (r .lo) (r .hi) f ≡ Not → readFilled joins c r f ≡ refusedWith 27 (fault 0 0)
-  no-number h = at-27 joins c r f number-fits (number-valued Not h)
+  pub no-number : readNumber (r .lo) (r .hi) f ≡ noNumber → readFilled joins c r f ≡ refusedWith 27 (fault 0 0)
+  no-number h = at-27 joins c r f number-fits (number-valued noNumber h)
 
-  module _ (small : r .hi < 65536) (m : ℕ) (h : readNumber (r .lo) (r .hi) f ≡ Is m) where
+  module _ (small : r .hi < 65536) (m : ℕ) (h : readNumber (r .lo) (r .hi) f ≡ took m) where
     kind : (b : Bool) → eqb (r .form) 8 && eqb (m % 65536) 5 ≡ b → valued r f ≡ not b
-    kind b e = number-valued (Is m) h ∙ rw (in-range (r .lo) (r .hi) m f small h, e)
+    kind b e = number-valued (took m) h ∙ rw (in-range (r .lo) (r .hi) m f small h, e)
 
     pub five : eqb (r .form) 8 && eqb (m % 65536) 5 ≡ true → readFilled joins c r f ≡ refusedWith 27 (fault 0 0)
     five e = at-27 joins c r f number-fits (kind true e)

@@ -24,7 +24,7 @@ use Rattle.supplement.specs.Amount.{may, next, columns, figuresOf, decimalsOf, 
 use Rattle.supplement.specs.Supplement.{emptyWeek, moreDays, readSupplement}
 use Rattle.supplement.specs.Supplement as Supplementary
 use Rattle.supplement.specs.declared.Supplement.{Supplement}
-use Rattle.schedule.specs.Code.Kept.{mayJoin}
+use Rattle.schedule.specs.Kept.{mayJoin}
 use Rattle.counter.specs.Counter.{rises, carries, nextDrug, nextSupplement}
 use Rattle.field.specs.Field.{free, required, forbidden, text, drugCode, date, site, usageCode, supplementCode, amount, number, codeKind, newRp, ownRp, drugSerial, supplementSerial, isEmpty, present, fits, each, numberOf, valued, ordered, codeFault, joined, listed, filled, wrong, right, refusedWith, readField}
 use Rattle.field.specs.declared.Rule.{Rule}

@@ -13,11 +13,7 @@ use Rattle.cells.specs.declared.Fault.{Fault}
 use Rattle.text.specs.Text.{textUpto}
 use Rattle.number.specs.Number.{value, readNumber}
 use Rattle.number.specs.Amount.{hundredThousandths, readAmount}
-use Rattle.number.specs.declared.Number.{Number}
-use Rattle.number.specs.declared.Number.the-variants.{Is, Not}
 use Rattle.date.specs.Date.{readDate}
-use Rattle.date.specs.declared.Made.{Made}
-use Rattle.date.specs.declared.Made.the-variants.{Day, None}
 use Rattle.usage.specs.Usage.{readUsage}
 use Rattle.supplement.specs.Supplement.{readSupplement}
 use Rattle.supplement.specs.declared.Supplement.{Supplement}
@@ -107,15 +103,10 @@ present r f = cond (isEmpty f) (not (eqb (r .need) required)) (not (eqb (r .need
 unfoldable pub fits : Rule → List ℕ → Bool
 fits r f = cond (leb (r .form) 1) (textUpto (r .hi) f) true
 
--- A field is such a number or amount.
-abbrev pub isNumber : Number → Bool
-isNumber (Is n) = true
-isNumber Not = false
-
--- A field is a date.
-abbrev pub isDay : Made → Bool
-isDay (Day t) = true
-isDay None = false
+-- A field is such a number, amount or date.
+abbrev pub isTaken : {A : Type 0} → Answer A → Bool
+isTaken (took a) = true
+isTaken (refused n p) = false
 
 -- Each byte is in a set.
 unfoldable pub each : String → List ℕ → Bool
@@ -139,11 +130,11 @@ unfoldable pub valued : Rule → List ℕ → Bool
 valued r f =
     cond (eqb (r .form) 0) true
     (cond (eqb (r .form) 1) (isDrugCode f)
-    (cond (eqb (r .form) 2) (isDay (readDate f))
+    (cond (eqb (r .form) 2) (isTaken (readDate f))
     (cond (eqb (r .form) 3) (isSite f)
     (cond (leb (r .form) 5) true
-    (cond (eqb (r .form) 6) (isNumber (readAmount f))
-    (cond (eqb (r .form) 8) (isNumber (readNumber (r .lo) (r .hi) f) && not (eqb (numberOf f) 5)) (isNumber (readNumber (r .lo) (r .hi) f))))))))
+    (cond (eqb (r .form) 6) (isTaken (readAmount f))
+    (cond (eqb (r .form) 8) (isTaken (readNumber (r .lo) (r .hi) f) && not (eqb (numberOf f) 5)) (isTaken (readNumber (r .lo) (r .hi) f))))))))
 
 -- "30 RP number or serial not as ordered": after what the records before leave.
 unfoldable pub ordered : Sofar → Rule → ℕ → Bool

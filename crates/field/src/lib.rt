@@ -15,8 +15,8 @@ ghost use Rattle.date.specs.Date.{readDate};
 ghost use Rattle.usage.specs.Usage.{readUsage};
 ghost use Rattle.supplement.specs.Supplement.{readSupplement};
 ghost use Rattle.supplement.specs.declared.Supplement.{Supplement};
-ghost use Rattle.schedule.specs.Code.Kept.{mayJoin};
-ghost use Rattle.field.specs.Field.{isDay, isDrugCode, isSite, ordered as orderedOf, refusedWith, readField};
+ghost use Rattle.schedule.specs.Kept.{mayJoin};
+ghost use Rattle.field.specs.Field.{isTaken, isDrugCode, isSite, ordered as orderedOf, refusedWith, readField};
 ghost use Rattle.field.specs.Code.Read.{codedOf, usageFault, supplementFault, codeWrong, formedIf, amountField, readFilled};
 
 // Whether a field may be empty.
@@ -125,7 +125,7 @@ fn is_site(f: &[u8]) -> bool
 }
 
 fn is_date(f: &[u8]) -> bool
-    ensures { λ t. ⌜ t ≡ isDay (readDate (now (f .entry))) ⌝ }
+    ensures { λ t. ⌜ t ≡ isTaken (readDate (now (f .entry))) ⌝ }
 {
     match date::read(f) {
         Made::Day(_) => true,

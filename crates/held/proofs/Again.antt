@@ -17,18 +17,16 @@ use Rattle.number.specs.Number.{value, shortest, readNumber}
 use Rattle.number.specs.Print.{printNumber}
 use Rattle.date.specs.Date.{readDate}
 use Rattle.date.specs.declared.Date.{Date}
-use Rattle.date.specs.declared.Made.{Made}
-use Rattle.date.specs.declared.Made.the-variants.{Day, None}
 use Rattle.usage.specs.Usage.{readUsage}
 use Rattle.usage.specs.declared.Instruction.{Instruction}
-use Rattle.usage_writer.specs.Code.Write.{raw as usageText}
+use Rattle.usage_writer.specs.Print.{raw as usageText}
 use Rattle.supplement.specs.Supplement.{readSupplement}
 use Rattle.supplement.specs.declared.Supplement.{Supplement}
-use Rattle.supplement_writer.specs.Code.Write.{raw as supplementText, agrees}
+use Rattle.supplement_writer.specs.Print.{raw as supplementText, agrees}
 use Rattle.printed.specs.Printed.{dateField, usageField, supplementField, readsAs}
 use Rattle.printed.proofs.Laws.{date-reads, usage-reads, supplement-reads}
-use Rattle.order.specs.Code.Next.{follow}
-use Rattle.field.specs.Field.{rule, isEmpty, isDay, numberOf, faultIn, codeFault, wrong}
+use Rattle.order.specs.Next.{follow}
+use Rattle.field.specs.Field.{rule, isEmpty, isTaken, numberOf, faultIn, codeFault, wrong}
 use Rattle.field.specs.declared.Sofar.{Sofar}
 use Rattle.row.specs.Table.{nth, typed, rules, rulesFrom}
 use Rattle.record.specs.Record.{textAt, after, supplements}
@@ -55,9 +53,9 @@ optional-value : (n : ℕ) → numberOf (print (optional n)) ≡ n
 unfolding value
 optional-value n = cases (eqb n 0) (λ e. rw e (sym (eqb-true n 0 e))) (λ e. rw e (number-value n))
 
-date-value : (t : Date) (m : Made) → readDate (dateField t) ≡ m → isDay m ≡ true → dateIn m ≡ t
-date-value t (Day u) e h = date-reads t u e
-date-value t None e h = absurd (let z : _≡_ {A = ℕ} 0 1 = cc in omega arith)
+date-value : (t : Date) (m : Answer Date) → readDate (dateField t) ≡ m → isTaken m ≡ true → dateIn m ≡ t
+date-value t (took u) e h = date-reads t u e
+date-value t (refused n p) e h = absurd (let z : _≡_ {A = ℕ} 0 1 = cc in omega arith)
 
 usage-value : (i : Instruction) (m : Answer Instruction) → readUsage (usageField i) ≡ m → faultIn m .number ≡ 0 → usageIn m ≡ usageIs i
 usage-value i (took j) e h = ap usageIs (usage-reads i j e)

@@ -21,7 +21,7 @@ use Rattle.number.specs.Amount.{before, after, pointed, fraction, amount, readA
 use Rattle.number.proofs.Sizes.{figures-parts}
 use Rattle.number.proofs.Whole.{shortest-figures, fraction-parts, unpointed}
 use Rattle.date.specs.Date.{readDate}
-use Rattle.field.specs.Field.{isNumber, isDay, isSite}
+use Rattle.field.specs.Field.{isTaken, isSite}
 use Rattle.field.specs.Field as Field
 
 -- A byte that may stand in a field.
@@ -59,7 +59,7 @@ figures-fit : (f : List ℕ) → figures f ≡ true → Fit f
 figures-fit [] h = fit-none
 figures-fit (b ∷ f) h = let p = figures-parts b f h in fit-more b f (omega (arith, p .0, p .1)) (figures-fit f (p .2))
 
-pub number-fit : (lo hi : ℕ) (f : List ℕ) → isNumber (readNumber lo hi f) ≡ true → Fit f
+pub number-fit : (lo hi : ℕ) (f : List ℕ) → isTaken (readNumber lo hi f) ≡ true → Fit f
 unfolding readNumber
 number-fit lo hi f h =
     cases (shortest f) (λ e. figures-fit f (shortest-figures f e))
@@ -78,7 +78,7 @@ unfolding figures
 fraction-figures f h =
     cases (pointed f) (λ e. fraction-parts (after f) (simp e at h) .2) (λ e. rw (unpointed f e))
 
-pub amount-fit : (f : List ℕ) → isNumber (readAmount f) ≡ true → Fit f
+pub amount-fit : (f : List ℕ) → isTaken (readAmount f) ≡ true → Fit f
 unfolding readAmount amount
 amount-fit f h =
     cases (amount f)
@@ -87,7 +87,7 @@ amount-fit f h =
     (λ e. absurd (let k = simp e at h in let z : _≡_ {A = ℕ} 0 1 = cc in omega arith))
 
 -- a date
-pub day-fit : (f : List ℕ) → isDay (readDate f) ≡ true → Fit f
+pub day-fit : (f : List ℕ) → isTaken (readDate f) ≡ true → Fit f
 unfolding readDate
 day-fit f h =
     cases (figures f) (λ e. figures-fit f e) (λ e. absurd (let k = simp e at h in let z : _≡_ {A = ℕ} 0 1 = cc in omega arith))

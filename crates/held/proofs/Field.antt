@@ -14,13 +14,10 @@ use Rattle.cells.proofs.Alike.{and-parts}
 use Rattle.number.specs.Number.{figures, value, shortest, readNumber}
 use Rattle.number.specs.Amount.{amount as isAmount, hundredThousandths, readAmount}
 use Rattle.number.specs.Print.{printNumber, printAmount}
-use Rattle.number.specs.declared.Number.the-variants.{Is}
 use Rattle.number.proofs.Laws as numbers
 use Rattle.date.specs.Date.{isDate, readDate}
 use Rattle.date.specs.declared.Date.{Date}
 use Rattle.date.specs.Print.{printDate}
-use Rattle.date.specs.declared.Made.{Made}
-use Rattle.date.specs.declared.Made.the-variants.{Day, None}
 use Rattle.date.proofs.Laws as dates
 use Rattle.usage.specs.Usage.{frame, timing, says as saysUsage, readUsage}
 use Rattle.usage.specs.declared.Instruction.{Instruction}
@@ -28,7 +25,7 @@ use Rattle.supplement.specs.Supplement.{tests, says as saysSupplement, readSupp
 use Rattle.supplement.specs.declared.Supplement.{Supplement}
 use Rattle.printed.specs.Printed.{dateField}
 use Rattle.printed.proofs.Laws.{date-held, usage-held, supplement-held}
-use Rattle.field.specs.Field.{rule, free, required, isEmpty, isNumber, isDay, numberOf, valued, faultIn, codeFault, wrong}
+use Rattle.field.specs.Field.{rule, free, required, isEmpty, isTaken, numberOf, valued, faultIn, codeFault, wrong}
 use Rattle.field.specs.declared.Rule.{Rule}
 use Rattle.field.specs.declared.Sofar.{Sofar}
 use Rattle.field.proofs.Laws.{passes, empty-only}
@@ -51,31 +48,31 @@ module _ (joins : Supplement → Bool) (c : Sofar) where
       absurd (let e : false ≡ true = empty-only joins c (rule required form lo hi) h in let z : _≡_ {A = ℕ} 0 1 = cc in omega arith)
 
   -- So a date that is required is one.
-  pub day-read : (f : List ℕ) → wrong joins c (rule required 2 0 0) f ≡ 0 → isDay (readDate f) ≡ true
+  pub day-read : (f : List ℕ) → wrong joins c (rule required 2 0 0) f ≡ 0 → isTaken (readDate f) ≡ true
   unfolding valued
   day-read [] h = not-empty 2 0 0 h
   day-read (b ∷ f) h = formed _ b f h
 
 -- ---- form by form, of a filled field
 -- a number in its range
-taken-number : (lo hi : ℕ) (f : List ℕ) → isNumber (readNumber lo hi f) ≡ true → readNumber lo hi f ≡ Is (numberOf f)
+taken-number : (lo hi : ℕ) (f : List ℕ) → isTaken (readNumber lo hi f) ≡ true → readNumber lo hi f ≡ took (numberOf f)
 unfolding readNumber
 taken-number lo hi f h =
     cases (shortest f && (leb lo (value 0 f) && leb (value 0 f) hi)) (λ e. simp e)
     (λ e. absurd (let k = simp e at h in let z : _≡_ {A = ℕ} 0 1 = cc in omega arith))
 
-at-least : (lo hi : ℕ) (f : List ℕ) → isNumber (readNumber lo hi f) ≡ true → lo ≤ numberOf f
+at-least : (lo hi : ℕ) (f : List ℕ) → isTaken (readNumber lo hi f) ≡ true → lo ≤ numberOf f
 unfolding readNumber
 at-least lo hi f h =
     cases (shortest f && (leb lo (value 0 f) && leb (value 0 f) hi))
     (λ e. leb-true lo (value 0 f) (and-parts (leb lo (value 0 f)) _ (and-parts (shortest f) _ e .1) .0))
     (λ e. absurd (let k = simp e at h in let z : _≡_ {A = ℕ} 0 1 = cc in omega arith))
 
-number-is : (lo hi : ℕ) (f : List ℕ) → isNumber (readNumber lo hi f) ≡ true → printNumber (numberOf f) ≡ f
+number-is : (lo hi : ℕ) (f : List ℕ) → isTaken (readNumber lo hi f) ≡ true → printNumber (numberOf f) ≡ f
 number-is lo hi f h = numbers.back lo hi (numberOf f) f (taken-number lo hi f h)
 
 -- an amount
-amount-is : (f : List ℕ) → isNumber (readAmount f) ≡ true → printAmount (hundredThousandths f) ≡ f
+amount-is : (f : List ℕ) → isTaken (readAmount f) ≡ true → printAmount (hundredThousandths f) ≡ f
 unfolding readAmount
 amount-is f h =
     cases (isAmount f) (λ e. numbers.amount-back (hundredThousandths f) f (simp e))
@@ -86,19 +83,19 @@ no-print : (t : Date) → isDate t ≡ false → [] ≡ printDate t
 unfolding printDate
 no-print t e = rw e
 
-no-read : (t : Date) → readDate [] ≡ Day t → ⊥
+no-read : (t : Date) → readDate [] ≡ took t → ⊥
 unfolding readDate figures
 no-read t h = let z : _≡_ {A = ℕ} 0 1 = cc in omega arith
 
 -- a date: what is no date is written as no field
-date-field : (f : List ℕ) (t : Date) → readDate f ≡ Day t → dateField t ≡ f
+date-field : (f : List ℕ) (t : Date) → readDate f ≡ took t → dateField t ≡ f
 date-field f t h =
     cases (isDate t) (λ e. date-held t e ∙ dates.back f t h)
     (λ e. absurd (no-read t (ap readDate (no-print t e ∙ dates.back f t h) ∙ h)))
 
-date-is : (f : List ℕ) (m : Made) → readDate f ≡ m → isDay m ≡ true → dateField (dateIn m) ≡ f
-date-is f (Day t) e h = date-field f t e
-date-is f None e h = absurd (let z : _≡_ {A = ℕ} 0 1 = cc in omega arith)
+date-is : (f : List ℕ) (m : Answer Date) → readDate f ≡ m → isTaken m ≡ true → dateField (dateIn m) ≡ f
+date-is f (took t) e h = date-field f t e
+date-is f (refused n p) e h = absurd (let z : _≡_ {A = ℕ} 0 1 = cc in omega arith)
 
 -- what refuses has a number
 refuses : {A : Type 0} (b : Bool) (ts : List Test) (a : A) (n p : ℕ) → cond b (judge (first ts) a) (refused 1 0) ≡ refused n p → n ≡ 0 → ⊥
@@ -127,7 +124,7 @@ supplement-is f (refused n p) e h = absurd (refused-supplement f n p e h)
 -- ---- form by form, of a field that passes
 module _ (joins : Supplement → Bool) (c : Sofar) where
   -- A number that is required, in any of its forms;
-  pub number-back : (form lo hi : ℕ) → ((f : List ℕ) → valued (rule required form lo hi) f ≡ true → isNumber (readNumber lo hi f) ≡ true) →
+  pub number-back : (form lo hi : ℕ) → ((f : List ℕ) → valued (rule required form lo hi) f ≡ true → isTaken (readNumber lo hi f) ≡ true) →
       (f : List ℕ) → wrong joins c (rule required form lo hi) f ≡ 0 → print (number (numberOf f)) ≡ f
   number-back form lo hi is [] h = not-empty joins c form lo hi h
   number-back form lo hi is (b ∷ f) h = number-is lo hi (b ∷ f) (is (b ∷ f) (formed joins c _ b f h))
@@ -137,7 +134,7 @@ module _ (joins : Supplement → Bool) (c : Sofar) where
   unfolding valued value
   optional-back hi [] h = refl
   optional-back hi (b ∷ f) h =
-      let v : isNumber (readNumber 1 hi (b ∷ f)) ≡ true = formed joins c _ b f h in
+      let v : isTaken (readNumber 1 hi (b ∷ f)) ≡ true = formed joins c _ b f h in
       let l : 1 ≤ numberOf (b ∷ f) = at-least 1 hi (b ∷ f) v in
       rw (ne-eqb (numberOf (b ∷ f)) 0 (omega arith)) (number-is 1 hi (b ∷ f) v)
 

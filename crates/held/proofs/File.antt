@@ -11,7 +11,7 @@ use Rattle.line.specs.Frame.{file}
 use Rattle.line.specs.Fields.{split}
 use Rattle.line.proofs.Laws.{join-split}
 use Rattle.supplement.specs.declared.Supplement.{Supplement}
-use Rattle.order.specs.Code.Next.{closes}
+use Rattle.order.specs.Next.{closes}
 use Rattle.schedule.specs.Schedule.{list}
 use Rattle.field.specs.declared.Sofar.{Sofar}
 use Rattle.record.specs.Record.{after, supplements}

@@ -15,14 +15,12 @@ use Rattle.line.specs.Frame.{plain, plainLine}
 use Rattle.line.specs.Fields.{noCommas, join}
 use Rattle.text.specs.Text.{textUpto}
 use Rattle.number.specs.Number.{shortest, readNumber}
-use Rattle.number.specs.declared.Number.{Number}
-use Rattle.number.specs.declared.Number.the-variants.{Is, Not}
 use Rattle.usage.specs.Usage.{readUsage}
 use Rattle.usage.specs.declared.Instruction.{Instruction}
 use Rattle.supplement.specs.Supplement.{readSupplement}
 use Rattle.supplement.specs.declared.Supplement.{Supplement}
-use Rattle.order.specs.Code.Next.{follow}
-use Rattle.field.specs.Field.{fits, valued, faultIn, codeFault, isNumber, wrong}
+use Rattle.order.specs.Next.{follow}
+use Rattle.field.specs.Field.{fits, valued, faultIn, codeFault, isTaken, wrong}
 use Rattle.field.specs.declared.Rule.{Rule}
 use Rattle.field.specs.declared.Sofar.{Sofar}
 use Rattle.record_line.specs.Line.{numberIn, readParts}
@@ -107,9 +105,9 @@ module _ (joins : Supplement → Bool) (c : Sofar) where
   row-fits n fs w = all-parts fs (λ j l. field-fit joins c _ (getD fs j []) (w .passes j l))
 
   -- and its number
-  number-part : (p : List ℕ) (m : Number) → readNumber 1 999 p ≡ m → follow (c .last) (numberIn m) ≡ 0 → Fit p
-  number-part p (Is n) e h = number-fit 1 999 p (ap isNumber e)
-  number-part p Not e h = not-0 joins c h
+  number-part : (p : List ℕ) (m : Answer ℕ) → readNumber 1 999 p ≡ m → follow (c .last) (numberIn m) ≡ 0 → Fit p
+  number-part p (took n) e h = number-fit 1 999 p (ap isTaken e)
+  number-part p (refused k q) e h = not-0 joins c h
 
   -- The parts of a line that is taken.
   pub plain-parts : (at : ℕ) (ps : List (List ℕ)) (q : Record) → readParts joins c at ps ≡ Took q → Fits ps

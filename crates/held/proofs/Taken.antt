@@ -8,14 +8,13 @@ use native.Mathlib.Omega.{arith}
 use borrow.Author.Tests.{eqb-true}
 use lib.Dec.{eqb}
 use Rattle.cells.proofs.Split.{split as cases}
+use Rattle.cells.specs.Test.{Answer, took, refused}
 use Rattle.number.specs.Number.{readNumber}
 use Rattle.number.specs.Print.{printNumber}
-use Rattle.number.specs.declared.Number.{Number}
-use Rattle.number.specs.declared.Number.the-variants.{Is, Not}
 use Rattle.number.proofs.Laws as numbers
 use Rattle.supplement.specs.declared.Supplement.{Supplement}
 use Rattle.order.specs.Order.{some, header, directions, drug, records}
-use Rattle.order.specs.Code.Next.{follow}
+use Rattle.order.specs.Next.{follow}
 use Rattle.field.specs.declared.Sofar.{Sofar}
 use Rattle.row.specs.Row.{readRow}
 use Rattle.record_line.specs.Fields.{recordOf}
@@ -48,6 +47,6 @@ module _ (joins : Supplement → Bool) (c : Sofar) where
   not-0 h = absurd (let z : _≡_ {A = ℕ} 23 0 = h in omega arith)
 
   -- The number of a record that may follow is written as it stood.
-  pub number-stood : (p : List ℕ) (m : Number) → readNumber 1 999 p ≡ m → follow (c .last) (numberIn m) ≡ 0 → printNumber (numberIn m) ≡ p
-  number-stood p (Is n) e h = numbers.back 1 999 n p e
-  number-stood p Not e h = not-0 h
+  pub number-stood : (p : List ℕ) (m : Answer ℕ) → readNumber 1 999 p ≡ m → follow (c .last) (numberIn m) ≡ 0 → printNumber (numberIn m) ≡ p
+  number-stood p (took n) e h = numbers.back 1 999 n p e
+  number-stood p (refused k q) e h = not-0 h

@@ -7,48 +7,56 @@ use mathlib.Core.Path.{_≡_, refl, _∙_, sym, ap}
 use mathlib.Core.Bool.{Bool, true, false, cond}
 use mathlib.Core.List.{List, [], _∷_, map}
 use native.Mathlib.Omega.{arith}
+use Rattle.cells.specs.Test.{Answer, took}
 use Rattle.cells.proofs.Alike.{and-parts}
-use Rattle.number.specs.Number.{figure, figures, value, shortest, readNumber}
+use Rattle.number.specs.Number.{none, said, figure, figures, value, shortest, readNumber}
 use Rattle.number.specs.Amount.{before, after, pointed, fraction, amount, hundredThousandths, readAmount}
 use Rattle.number.specs.Print.{digits, printNumber, decimals, printAmount}
 use Rattle.number.specs.declared.Number.{Number}
 use Rattle.number.specs.declared.Number.the-variants.{Is, Not}
 use Rattle.number.proofs.Print.{printed, amount-printed}
 
-taken : (b : Bool) (v n : ℕ) → cond b (Is v) Not ≡ Is n → (b ≡ true) × (v ≡ n)
+-- Two readings of which document 01's number and values are the same are equal.
+pub one-reading : (a b : Number) → said a ≡ said b → a ≡ b
+one-reading (Is m) (Is n) e = cc
+one-reading (Is m) Not e = cc
+one-reading Not (Is n) e = cc
+one-reading Not Not e = refl
+
+taken : (b : Bool) (v n : ℕ) → cond b (took v) none ≡ took n → (b ≡ true) × (v ≡ n)
 taken true v n h = (refl, cc)
 taken false v n h = absurd (let z : _≡_ {A = ℕ} 0 1 = cc in omega arith)
 
 -- A field that reads as a number is what the number is written as.
-pub back : (lo hi n : ℕ) (s : List ℕ) → readNumber lo hi s ≡ Is n → printNumber n ≡ s
+pub back : (lo hi n : ℕ) (s : List ℕ) → readNumber lo hi s ≡ took n → printNumber n ≡ s
 unfolding readNumber
 back lo hi n s h = let t = taken _ (value 0 s) n h in ap printNumber (sym (t .1)) ∙ printed s (and-parts (shortest s) _ (t .0) .0)
 
 -- So what a number that some field reads as is written as reads as the number,
-pub again : (lo hi n : ℕ) (s : List ℕ) → readNumber lo hi s ≡ Is n → readNumber lo hi (printNumber n) ≡ Is n
+pub again : (lo hi n : ℕ) (s : List ℕ) → readNumber lo hi s ≡ took n → readNumber lo hi (printNumber n) ≡ took n
 again lo hi n s h = ap (readNumber lo hi) (back lo hi n s h) ∙ h
 
 -- and two fields that read as one number are one field, in whatever ranges they are read.
-pub one-number : (lo hi lo′ hi′ n : ℕ) (s t : List ℕ) → readNumber lo hi s ≡ Is n → readNumber lo′ hi′ t ≡ Is n → s ≡ t
+pub one-number : (lo hi lo′ hi′ n : ℕ) (s t : List ℕ) → readNumber lo hi s ≡ took n → readNumber lo′ hi′ t ≡ took n → s ≡ t
 one-number lo hi lo′ hi′ n s t h k = sym (back lo hi n s h) ∙ back lo′ hi′ n t k
 
 -- The same of amounts.
-pub amount-back : (n : ℕ) (s : List ℕ) → readAmount s ≡ Is n → printAmount n ≡ s
+pub amount-back : (n : ℕ) (s : List ℕ) → readAmount s ≡ took n → printAmount n ≡ s
 unfolding readAmount
 amount-back n s h = let t = taken (amount s) (hundredThousandths s) n h in ap printAmount (sym (t .1)) ∙ amount-printed s (t .0)
 
-pub amount-again : (n : ℕ) (s : List ℕ) → readAmount s ≡ Is n → readAmount (printAmount n) ≡ Is n
+pub amount-again : (n : ℕ) (s : List ℕ) → readAmount s ≡ took n → readAmount (printAmount n) ≡ took n
 amount-again n s h = ap readAmount (amount-back n s h) ∙ h
 
-pub one-amount : (n : ℕ) (s t : List ℕ) → readAmount s ≡ Is n → readAmount t ≡ Is n → s ≡ t
+pub one-amount : (n : ℕ) (s t : List ℕ) → readAmount s ≡ took n → readAmount t ≡ took n → s ≡ t
 one-amount n s t h k = sym (amount-back n s h) ∙ amount-back n t k
 
 -- A field, as text, and what it reads as.
 pub record Row : Type 0 where
   pub field : String
-  pub reads : Number
+  pub reads : Answer ℕ
 
-abbrev row : String → Number → Row
+abbrev row : String → Answer ℕ → Row
 row s r = record { field = s; reads = r }
 
 abbrev bytes : String → List ℕ
@@ -58,16 +66,16 @@ bytes (cons x t) = code x ∷ bytes t
 -- Read from 0 to 999.
 abbrev pub numbers : List Row
 numbers =
-    row "0" (Is 0) ∷
-    row "10" (Is 10) ∷
-    row "999" (Is 999) ∷
-    row "010" Not ∷
-    row "00" Not ∷
-    row "" Not ∷
-    row "1000" Not ∷
-    row "1A" Not ∷
-    row "1 " Not ∷
-    row "-1" Not ∷
+    row "0" (took 0) ∷
+    row "10" (took 10) ∷
+    row "999" (took 999) ∷
+    row "010" none ∷
+    row "00" none ∷
+    row "" none ∷
+    row "1000" none ∷
+    row "1A" none ∷
+    row "1 " none ∷
+    row "-1" none ∷
     []
 
 pub numbers-right : map (λ r. readNumber 0 999 (bytes (r .field))) numbers ≡ map (λ r. r .reads) numbers
@@ -76,18 +84,18 @@ numbers-right = refl
 
 abbrev pub amounts : List Row
 amounts =
-    row "0" (Is 0) ∷
-    row "0.5" (Is 50000) ∷
-    row "3" (Is 300000) ∷
-    row "123456.12345" (Is 12345612345) ∷
-    row ".5" Not ∷
-    row "00.5" Not ∷
-    row "1.0" Not ∷
-    row "5." Not ∷
-    row "1.234567" Not ∷
-    row "1.2.3" Not ∷
-    row "1234567" Not ∷
-    row "" Not ∷
+    row "0" (took 0) ∷
+    row "0.5" (took 50000) ∷
+    row "3" (took 300000) ∷
+    row "123456.12345" (took 12345612345) ∷
+    row ".5" none ∷
+    row "00.5" none ∷
+    row "1.0" none ∷
+    row "5." none ∷
+    row "1.234567" none ∷
+    row "1.2.3" none ∷
+    row "1234567" none ∷
+    row "" none ∷
     []
 
 pub amounts-right : map (λ r. readAmount (bytes (r .field))) amounts ≡ map (λ r. r .reads) amounts

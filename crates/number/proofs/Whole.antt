@@ -9,11 +9,11 @@ use borrow.Author.Tests.{le-leb, lt-leb, leb-true, ne-eqb, eqb-false, not-true}
 use lib.Dec.{leb, eqb}
 use lib.ListN.{length, getD, take, drop, replicate, length-drop}
 use lib.Seq.{take-all, length-take-le}
+use Rattle.cells.specs.Test.{took}
 use Rattle.cells.proofs.Alike.{and-parts}
-use Rattle.number.specs.Number.{figures, value, shortest, readNumber}
+use Rattle.number.specs.Number.{figures, value, shortest, readNumber, none}
 use Rattle.number.specs.Amount.{before, after, pointed, fraction, amount, hundredThousandths, readAmount}
 use Rattle.number.specs.Code.Parts.{wholeNumber, within, afterPoint, withFraction}
-use Rattle.number.specs.declared.Number.the-variants.{Is, Not}
 use Rattle.cells.proofs.Split.{split}
 use Rattle.number.proofs.Sizes.{figures-parts, value-append, least, large, few, padded, filled}
 
@@ -62,7 +62,7 @@ many (c ∷ s) h l =
     omega arith
 
 module _ (lo hi : ℕ) (s : List ℕ) where
-  number-none : shortest s ≡ false → readNumber lo hi s ≡ Not
+  number-none : shortest s ≡ false → readNumber lo hi s ≡ none
   unfolding readNumber
   number-none h = rw h
 
@@ -70,11 +70,11 @@ module _ (lo hi : ℕ) (s : List ℕ) where
   unfolding readNumber within
   number-some h = rw h
 
-  pub number-empty : length s ≡ 0 → readNumber lo hi s ≡ Not
+  pub number-empty : length s ≡ 0 → readNumber lo hi s ≡ none
   number-empty h = number-none (shortest-none s h)
 
   module _ (h : length s ≡ 0 → ⊥) where
-    pub number-led : led s ≡ true → readNumber lo hi s ≡ Not
+    pub number-led : led s ≡ true → readNumber lo hi s ≡ none
     number-led e = number-none (shortest-by s h true e ∙ and-false (figures s))
 
     -- what is no digit is out of range
@@ -86,7 +86,7 @@ module _ (lo hi : ℕ) (s : List ℕ) where
         (λ f. rw (f, lt-leb 100000 hi (omega arith), and-false (leb lo 100000)) (number-none (shortest-by s h false e ∙ rw f)))
 
   -- a number of more than five digits is out of range
-  pub number-long : hi < 65536 → 5 < length s → readNumber lo hi s ≡ Not
+  pub number-long : hi < 65536 → 5 < length s → readNumber lo hi s ≡ none
   unfolding readNumber
   number-long h l =
       split (shortest s)
@@ -125,11 +125,11 @@ module _ (n : ℕ) (s : List ℕ) where
       let d : value n s ≤ value (value n s) (replicate (5 - length s) 48) = least (value n s) (replicate (5 - length s) 48) in
       (omega arith, omega arith)
 
-  pub point-some : fraction s ≡ true → afterPoint n s ≡ Is (value (value n s) (replicate (5 - length s) 48))
+  pub point-some : fraction s ≡ true → afterPoint n s ≡ took (value (value n s) (replicate (5 - length s) 48))
   unfolding afterPoint
   point-some e = rw (e, value-append n s (replicate (5 - length s) 48))
 
-  pub point-none : fraction s ≡ false → afterPoint n s ≡ Not
+  pub point-none : fraction s ≡ false → afterPoint n s ≡ none
   unfolding afterPoint
   point-none e = rw e
 
@@ -168,11 +168,11 @@ at-point (c ∷ s) h =
 
 -- ---- an amount by its parts
 module _ (s : List ℕ) where
-  amount-none : shortest (before s) ≡ false → readAmount s ≡ Not
+  amount-none : shortest (before s) ≡ false → readAmount s ≡ none
   unfolding readAmount amount
   amount-none h = rw h
 
-  amount-long : 6 < length (before s) → readAmount s ≡ Not
+  amount-long : 6 < length (before s) → readAmount s ≡ none
   unfolding readAmount amount
   amount-long h = rw (lt-leb (length (before s)) 6 h, and-false (shortest (before s)))
 
@@ -190,7 +190,7 @@ module _ (s : List ℕ) (p : ℕ) (e : p ≡ length (before s)) where
   pub front : take p s ≡ before s
   front = rw e (before-part s)
 
-  pub fraction-end : (n : ℕ) → p ≡ length s → withFraction n s ≡ Is (value n (replicate 5 48))
+  pub fraction-end : (n : ℕ) → p ≡ length s → withFraction n s ≡ took (value n (replicate 5 48))
   unfolding withFraction
   fraction-end n h = rw (no-point s (sym e ∙ h))
 
@@ -203,10 +203,10 @@ module _ (s : List ℕ) (p : ℕ) (e : p ≡ length (before s)) where
       let a : drop (p + 1) s ≡ after s = rw e (k .1) in
       rw (take-all (length s - (p + 1)) (drop (p + 1) s) (simp length-drop (omega arith)), a, k .0)
 
-  pub amount-far : 6 < p → readAmount s ≡ Not
+  pub amount-far : 6 < p → readAmount s ≡ none
   amount-far h = amount-long s (omega arith)
 
-  pub amount-badly : shortest (take p s) ≡ false → readAmount s ≡ Not
+  pub amount-badly : shortest (take p s) ≡ false → readAmount s ≡ none
   amount-badly h = amount-none s (rw front at h)
 
   pub amount-well : p ≤ 6 → shortest (take p s) ≡ true → readAmount s ≡ withFraction (value 0 (take p s)) s

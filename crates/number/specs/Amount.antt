@@ -5,9 +5,8 @@ use mathlib.Core.Bool.{Bool, true, false, cond, not, _&&_, _||_}
 use mathlib.Core.List.{List, [], _∷_, _++_}
 use lib.Dec.{leb, eqb}
 use lib.ListN.{length, getD, replicate}
-use Rattle.number.specs.Number.{figures, value, shortest}
-use Rattle.number.specs.declared.Number.{Number}
-use Rattle.number.specs.declared.Number.the-variants.{Is, Not}
+use Rattle.cells.specs.Test.{Answer, took}
+use Rattle.number.specs.Number.{figures, value, shortest, none}
 
 -- What stands before the first point: all, where there is none.
 unfoldable pub before : List ℕ → List ℕ
@@ -37,5 +36,5 @@ unfoldable pub hundredThousandths : List ℕ → ℕ
 hundredThousandths s = value (value 0 (before s)) (after s ++ replicate (5 - length (after s)) 48)
 
 -- A field's amount.
-unfoldable pub readAmount : List ℕ → Number
-readAmount s = cond (amount s) (Is (hundredThousandths s)) Not
+unfoldable pub readAmount : List ℕ → Answer ℕ
+readAmount s = cond (amount s) (took (hundredThousandths s)) none

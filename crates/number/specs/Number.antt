@@ -5,8 +5,18 @@ use mathlib.Core.Bool.{Bool, true, cond, not, _&&_, _||_}
 use mathlib.Core.List.{List, [], _∷_}
 use lib.Dec.{leb, eqb}
 use lib.ListN.{length, getD}
+use Rattle.cells.specs.Test.{Answer, took, refused}
 use Rattle.number.specs.declared.Number.{Number}
 use Rattle.number.specs.declared.Number.the-variants.{Is, Not}
+
+-- "27 number, date, amount, site or drug code": a field that is no number, or no amount.
+abbrev pub none : Answer ℕ
+none = refused 27 0
+
+-- Document 01's number and values of what a field is read as.
+abbrev pub said : Number → Answer ℕ
+said (Is n) = took n
+said Not = none
 
 -- A digit, 0 to 9.
 unfoldable pub figure : ℕ → Bool
@@ -27,5 +37,5 @@ unfoldable pub shortest : List ℕ → Bool
 shortest s = leb 1 (length s) && (figures s && (eqb (length s) 1 || not (eqb (getD s 0 0) 48)))
 
 -- A field's number in its range.
-unfoldable pub readNumber : ℕ → ℕ → List ℕ → Number
-readNumber lo hi s = cond (shortest s && (leb lo (value 0 s) && leb (value 0 s) hi)) (Is (value 0 s)) Not
+unfoldable pub readNumber : ℕ → ℕ → List ℕ → Answer ℕ
+readNumber lo hi s = cond (shortest s && (leb lo (value 0 s) && leb (value 0 s) hi)) (took (value 0 s)) none

@@ -3,7 +3,7 @@ ghost use mathlib.Core.Path.{_≡_};
 ghost use mathlib.Core.Bool.{true};
 ghost use Prim.Native.Nat.{_-_, _^_, _<_, _≤_};
 ghost use lib.ListN.{length, replicate};
-ghost use Rattle.number.specs.Number.{figure as figureOf, figures as figuresOf, value as valueOf, shortest as shortestOf, readNumber};
+ghost use Rattle.number.specs.Number.{figure as figureOf, figures as figuresOf, value as valueOf, shortest as shortestOf, said, readNumber};
 ghost use Rattle.number.specs.Amount.{before, fraction as fractionOf, readAmount};
 ghost use Rattle.number.specs.Code.Parts.{wholeNumber, within as withinOf, afterPoint, withFraction};
 
@@ -80,7 +80,7 @@ fn shortest(s: &[u8]) -> bool
 }
 
 fn within(n: u64, lo: u64, hi: u64) -> Number
-    ensures { λ r. ⌜ r ≡ withinOf lo hi n ⌝ }
+    ensures { λ r. ⌜ said r ≡ withinOf lo hi n ⌝ }
 {
     if n < lo {
         return Number::Not;
@@ -111,7 +111,7 @@ fn whole_number(s: &[u8]) -> u64
 
 // A number from lo to hi. One of more than five digits is above any hi.
 pub fn read(s: &[u8], lo: u16, hi: u16) -> Number
-    ensures { λ r. ⌜ r ≡ readNumber lo hi (now (s .entry)) ⌝ }
+    ensures { λ r. ⌜ said r ≡ readNumber lo hi (now (s .entry)) ⌝ }
 {
     if 5 < s.len() {
         return Number::Not;
@@ -156,7 +156,7 @@ fn fraction(s: &[u8]) -> bool
 // The amount whose whole part is n and whose digits after the point are these.
 fn after_point(s: &[u8], n: u64) -> Number
     requires { ⌜ n < 10 ^ 6 ⌝ }
-    ensures { λ r. ⌜ r ≡ afterPoint n (now (s .entry)) ⌝ }
+    ensures { λ r. ⌜ said r ≡ afterPoint n (now (s .entry)) ⌝ }
 {
     if fraction(s) {
         return Number::Is(with_zeros(value(s, n), 5 - s.len()));
@@ -167,7 +167,7 @@ fn after_point(s: &[u8], n: u64) -> Number
 // The amount whose whole part is n, and ends at a place: there the point stands, or nothing.
 fn with_fraction(s: &[u8], at: usize, n: u64) -> Number
     requires { ⌜ (at ≡ length (before (now s))) × (n < 10 ^ 6) ⌝ }
-    ensures { λ r. ⌜ r ≡ withFraction n (now (s .entry)) ⌝ }
+    ensures { λ r. ⌜ said r ≡ withFraction n (now (s .entry)) ⌝ }
 {
     if at == s.len() {
         return Number::Is(with_zeros(n, 5));
@@ -178,7 +178,7 @@ fn with_fraction(s: &[u8], at: usize, n: u64) -> Number
 
 // An amount, in hundred-thousandths.
 pub fn read_amount(s: &[u8]) -> Number
-    ensures { λ r. ⌜ r ≡ readAmount (now (s .entry)) ⌝ }
+    ensures { λ r. ⌜ said r ≡ readAmount (now (s .entry)) ⌝ }
 {
     let at = point(s);
     if 6 < at {

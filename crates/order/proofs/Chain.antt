@@ -8,7 +8,7 @@ use native.Mathlib.Omega.{arith}
 use borrow.Author.Tests.{ltb-true, leb-true, eqb-true, lt-ltb, le-leb}
 use lib.Dec.{ltb, leb, eqb}
 use Rattle.order.specs.Order.{some, among, records, lastOf}
-use Rattle.order.specs.Code.Next.{stops, between, skips, repeats, rises, anew, may}
+use Rattle.order.specs.Next.{stops, between, skips, repeats, rises, anew, may}
 use Rattle.cells.proofs.Split.{split}
 use Rattle.cells.proofs.Alike.{and-parts as parts}
 use Rattle.order.proofs.Bools.{clash, both, either, or-left, or-right, not-is}

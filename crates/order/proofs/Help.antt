@@ -9,7 +9,7 @@ use native.Mathlib.Omega.{arith}
 use borrow.Author.Tests.{ltb-true, leb-true}
 use lib.Dec.{ltb, leb}
 use Rattle.order.specs.Order.{some, each, among, header, directions, drug, records, lastOf}
-use Rattle.order.specs.Code.Next.{stops, between, skips, repeats, rises, anew, may}
+use Rattle.order.specs.Next.{stops, between, skips, repeats, rises, anew, may}
 use Rattle.cells.proofs.Split.{split}
 use Rattle.cells.proofs.Alike.{and-parts as parts}
 use Rattle.order.proofs.Bools.{either}

@@ -9,7 +9,7 @@ use native.Mathlib.Omega.{arith}
 use borrow.Author.Tests.{ltb-true, ltb-false, leb-true, leb-false, le-leb}
 use lib.Dec.{ltb, leb, eqb}
 use Rattle.order.specs.Order.{some, each, among, rising, allowed, header, directions, drug, last, rp, Sheet, sheet, Begins, Helped, Verdict, well, unknown, hopeless, missing, records, lastOf}
-use Rattle.order.specs.Code.Next.{stops, skips, repeats, rises, anew, may, refusal, follow, closes}
+use Rattle.order.specs.Next.{stops, skips, repeats, rises, anew, may, refusal, follow, closes}
 use Rattle.cells.proofs.Split.{split}
 use Rattle.cells.proofs.Alike.{and-parts as parts}
 use Rattle.order.proofs.Bools.{clash, both}

@@ -9,7 +9,7 @@ use lib.Dec.{ltb, eqb}
 use Rattle.cells.proofs.Alike.{agree}
 use Rattle.cells.proofs.Split.{split}
 use Rattle.order.specs.Order.{some, each, among, header, directions, drug, records}
-use Rattle.order.specs.Code.Next.{inHeader, inRp}
+use Rattle.order.specs.Code.Known.{inHeader, inRp}
 use Rattle.order.proofs.Lists.{every, miss}
 
 pub all-below : each (λ n. ltb n 282) records ≡ true

@@ -9,7 +9,7 @@ use native.Mathlib.Omega.{arith}
 use borrow.Author.Tests.{ltb-true, ltb-false, leb-true, eqb-true, eqb-false, lt-ltb, le-leb}
 use lib.Dec.{ltb, leb, eqb}
 use Rattle.order.specs.Order.{some, each, among, Part, rising, allowed, Stands, header, directions, drug, OneOrMore, last, more, Rp, rp, Sheet, sheet, records, lastOf}
-use Rattle.order.specs.Code.Next.{stops, repeats, anew}
+use Rattle.order.specs.Next.{stops, repeats, anew}
 use Rattle.cells.proofs.Split.{split}
 use Rattle.cells.proofs.Alike.{and-parts as parts}
 use Rattle.order.proofs.Bools.{both, either, or-left, or-right}

@@ -9,7 +9,7 @@ use native.Mathlib.Omega.{arith}
 use borrow.Author.Tests.{ltb-true, leb-true, eqb-true, lt-ltb, eq-eqb}
 use lib.Dec.{ltb, leb, eqb}
 use Rattle.order.specs.Order.{some, each, among, Part, rising, allowed, header, directions, drug, records, lastOf}
-use Rattle.order.specs.Code.Next.{stops, repeats, rises}
+use Rattle.order.specs.Next.{stops, repeats, rises}
 use Rattle.cells.proofs.Alike.{and-parts as parts}
 use Rattle.order.proofs.Bools.{both, either, or-left, or-right}
 use Rattle.order.proofs.Lists.{none, uncons, every}

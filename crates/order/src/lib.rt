@@ -2,7 +2,8 @@
 // the last number alone says how far the file has come; it is 0 before the first record.
 ghost use mathlib.Core.Path.{_≡_};
 ghost use Rattle.order.specs.Order.{among, records};
-ghost use Rattle.order.specs.Code.Next.{inHeader, inRp, between as betweenOf, skips as skipsOf, rises as risesOf, anew as anewOf, may as mayOf, refusal as refusalOf, follow as followOf, closes as closesOf};
+ghost use Rattle.order.specs.Code.Known.{inHeader, inRp};
+ghost use Rattle.order.specs.Next.{between as betweenOf, skips as skipsOf, rises as risesOf, anew as anewOf, may as mayOf, refusal as refusalOf, follow as followOf, closes as closesOf};
 
 // Those that are never left out.
 const NEEDED: [u16; 11] = [1, 5, 11, 12, 13, 22, 23, 51, 101, 111, 201];

@@ -12,18 +12,18 @@ use Rattle.number.specs.Number.{figures, figure}
 use Rattle.date.specs.Date.{isDate, readDate}
 use Rattle.date.specs.Print.{printDate}
 use Rattle.date.specs.declared.Date.{Date}
-use Rattle.date.specs.declared.Made.the-variants.{Day}
 use Rattle.date.proofs.Laws as dates
 use Rattle.usage.specs.Usage.{readUsage}
 use Rattle.usage.specs.declared.Instruction.{Instruction}
 use Rattle.usage.specs.declared.Reading.the-variants.{Taken, Refused}
 use Rattle.usage_writer.specs.Writes.{WritesUsage}
-use Rattle.usage_writer.specs.Code.Write as usages
+use Rattle.usage_writer.specs.Print as usages
+use Rattle.usage_writer.specs.Code.Write.{answer as usageAnswer}
 use Rattle.usage_writer.proofs.Laws as usages-laws
 use Rattle.usage_writer.proofs.Writing as usages-writing
 use Rattle.supplement.specs.Supplement.{readSupplement}
 use Rattle.supplement.specs.declared.Supplement.{Supplement}
-use Rattle.supplement_writer.specs.Code.Write as supplements
+use Rattle.supplement_writer.specs.Print as supplements
 use Rattle.supplement_writer.proofs.Laws as supplements-laws
 use Rattle.supplement_writer.proofs.Writing as supplements-writing
 use Rattle.laid.specs.Laid.{noField}
@@ -41,25 +41,25 @@ pub date-none : (t : Date) → isDate t ≡ false → dateField t ≡ noField
 unfolding dateField
 date-none t h = rw h
 
-no-date : (u : Date) → readDate noField ≡ Day u → ⊥
+no-date : (u : Date) → readDate noField ≡ took u → ⊥
 unfolding readDate figures figure
 no-date u h = let z : _≡_ {A = ℕ} 0 1 = cc in omega arith
 
 -- What a date's field reads as is the date.
-pub date-reads : (t u : Date) → readDate (dateField t) ≡ Day u → u ≡ t
+pub date-reads : (t u : Date) → readDate (dateField t) ≡ took u → u ≡ t
 date-reads t u h =
     split (isDate t)
-    (λ e. let k : readDate (printDate t) ≡ Day t = dates.written t e in
+    (λ e. let k : readDate (printDate t) ≡ took t = dates.written t e in
     let f : dateField t ≡ printDate t = date-held t e in
     cc)
     (λ e. absurd (no-date u (sym (ap readDate (date-none t e)) ∙ h)))
 
 -- ---- usage codes
-answered : (i : Instruction) (a : Answer Instruction) → a ≡ readUsage (usages.raw i) → WritesUsage i (usages.answer (readsAs a i) (usages.raw i))
+answered : (i : Instruction) (a : Answer Instruction) → a ≡ readUsage (usages.raw i) → WritesUsage i (usageAnswer (readsAs a i) (usages.raw i))
 answered i (took j) e = usages-writing.written i (Taken j) e
 answered i (refused n p) e = usages-writing.written i (Refused (record { number = n; place = p })) e
 
-usage-written : (i : Instruction) → WritesUsage i (usages.answer (readsAs (readUsage (usages.raw i)) i) (usages.raw i))
+usage-written : (i : Instruction) → WritesUsage i (usageAnswer (readsAs (readUsage (usages.raw i)) i) (usages.raw i))
 usage-written i = answered i (readUsage (usages.raw i)) refl
 
 no-usage : (i : Instruction) → readUsage noField ≡ took i → ⊥

@@ -11,10 +11,10 @@ use Rattle.date.specs.Print.{printDate}
 use Rattle.date.specs.declared.Date.{Date}
 use Rattle.usage.specs.Usage.{readUsage}
 use Rattle.usage.specs.declared.Instruction.{Instruction}
-use Rattle.usage_writer.specs.Code.Write.{raw as usageText, same as sameUsage}
+use Rattle.usage_writer.specs.Print.{raw as usageText, same as sameUsage}
 use Rattle.supplement.specs.Supplement.{readSupplement}
 use Rattle.supplement.specs.declared.Supplement.{Supplement}
-use Rattle.supplement_writer.specs.Code.Write.{raw as supplementText, agrees}
+use Rattle.supplement_writer.specs.Print.{raw as supplementText, agrees}
 use Rattle.printed.specs.declared.Piece.{Piece}
 
 -- A date in its own style.

@@ -18,7 +18,7 @@ use Rattle.record_line.specs.Line.{readParts, lineAfter, lineAt, passedOf}
 use Rattle.row.specs.Row.{fieldsAt}
 use Rattle.line.specs.Fields.{join}
 use Rattle.record.specs.declared.Line.{Line}
-use Rattle.schedule.specs.Code.Kept.{mayJoin}
+use Rattle.schedule.specs.Kept.{mayJoin}
 use Rattle.reader.specs.Open.{fileFault}
 use Rattle.reader.specs.File.{File, Ending, whole, stopped, readFile, counted, checkFile, numberOf}
 use Rattle.reader.specs.Reader.{on, openFile, nextRecord, call, endingOf, told}

@@ -12,7 +12,7 @@ use Rattle.cells.proofs.Split.{split as cases}
 use Rattle.line.specs.Fields.{split}
 use Rattle.supplement.specs.declared.Supplement.{Supplement}
 use Rattle.order.specs.Order.{Begins, Sheet, lastOf}
-use Rattle.order.specs.Code.Next.{follow, closes}
+use Rattle.order.specs.Next.{follow, closes}
 use Rattle.order.proofs.Laws.{at-start, last-is, stands, closing as closing-order}
 use Rattle.schedule.specs.Schedule.{list}
 use Rattle.field.specs.declared.Sofar.{Sofar}

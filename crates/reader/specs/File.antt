@@ -7,7 +7,7 @@ use lib.Dec.{eqb}
 use lib.ListN.{length, drop}
 use Rattle.line.specs.Fields.{push, split}
 use Rattle.supplement.specs.declared.Supplement.{Supplement}
-use Rattle.order.specs.Code.Next.{closes}
+use Rattle.order.specs.Next.{closes}
 use Rattle.schedule.specs.Schedule.{list}
 use Rattle.field.specs.declared.Sofar.{Sofar}
 use Rattle.record.specs.Record.{start, after, supplements}

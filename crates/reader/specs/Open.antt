@@ -7,7 +7,7 @@ use lib.Dec.{leb, eqb}
 use lib.ListN.{length, take}
 use Rattle.cells.specs.Text.{bytes}
 use Rattle.cells.specs.Test.{test, fault, first}
-use Rattle.cells.specs.Code.Same.{eqs}
+use Rattle.cells.specs.Same.{eqs}
 use Rattle.cells.specs.declared.Fault.{Fault}
 use Rattle.line.specs.Frame.{frameFault}
 

@@ -5,8 +5,8 @@ use mathlib.Core.Bool.{Bool, true, cond}
 use mathlib.Core.List.{List, [], _∷_}
 use lib.Dec.{ltb, eqb}
 use lib.ListN.{length, getD}
-use Rattle.order.specs.Code.Next.{closes}
-use Rattle.schedule.specs.Code.Kept.{mayJoin}
+use Rattle.order.specs.Next.{closes}
+use Rattle.schedule.specs.Kept.{mayJoin}
 use Rattle.record.specs.Record.{start, after}
 use Rattle.record_line.specs.Line.{refusal, lineAt}
 use Rattle.record.specs.declared.Record.{Record}

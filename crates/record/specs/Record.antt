@@ -7,7 +7,7 @@ use lib.Dec.{leb}
 use lib.ListN.{length}
 use lib.Seq.{slice}
 use Rattle.supplement.specs.declared.Supplement.{Supplement}
-use Rattle.schedule.specs.Code.Kept.{kept, keepOf}
+use Rattle.schedule.specs.Kept.{kept, keepOf}
 use Rattle.schedule.specs.declared.Schedule.{Schedule}
 use Rattle.counter.specs.declared.RpNumber.{RpNumber}
 use Rattle.counter.specs.declared.DrugSerial.{DrugSerial}

@@ -19,7 +19,7 @@ use Rattle.field.specs.Field.{right, readField}
 use Rattle.field.specs.declared.Rule.{Rule}
 use Rattle.field.specs.declared.Sofar.{Sofar}
 use Rattle.row.specs.Table.{nth, typed, rules, rulesFrom, counted, noRule}
-use Rattle.row.specs.Row.{fieldsAt, fine, fieldByField, readRow, numbers, amounts, ends, inNine, numbersOf, amountsOf, endsOf}
+use Rattle.row.specs.Row.{fieldsAt, fine, fieldByField, readRow, numbers, amounts, ends, zeros, inNine, numbersOf, amountsOf, endsOf}
 use Rattle.row.specs.declared.Row.{Row}
 use Rattle.row.proofs.Walk.{inside}
 use Rattle.row.proofs.Each.{as-many}
@@ -239,8 +239,8 @@ module _ (joins : Supplement → Bool) (c : Sofar) (s : List ℕ) (from : ℕ) (
 -- ---- the line of a row
 
 -- The row is right: the record that was built of what was noted, and what it leaves.
-module _ (c : Sofar) (n : ℕ) (s : List ℕ) (from : ℕ) (w : Row) (ns ms es : List ℕ) (p : ns ≡ numbersOf n w (fieldsAt s from))
-    (q : ms ≡ amountsOf n w (fieldsAt s from)) (v : es ≡ endsOf n w from (fieldsAt s from)) where
+module _ (c : Sofar) (n : ℕ) (s : List ℕ) (from : ℕ) (w : Row) (ns ms es : List ℕ) (p : ns ≡ numbersOf n w (fieldsAt s from) zeros)
+    (q : ms ≡ amountsOf n w (fieldsAt s from) zeros) (v : es ≡ endsOf n w from (fieldsAt s from) zeros) where
   noted-record : builtOf n s ns ms es (record { from = from; to = w .after - 1 }) ≡ rowRecord n s from w
   noted-record = λ j. builtOf n s (p j) (q j) (v j) (record { from = from; to = w .after - 1 })
 
@@ -275,8 +275,8 @@ module _ (joins : Supplement → Bool) (c : Sofar) (s : List ℕ) (at n from : �
       ∙ ap (λ (r : Row). refusedLine c (rowRefusal at r)) (sym e))
 
 -- The ends that were noted are within the file.
-pub ends-within : (s : List ℕ) (n from : ℕ) → from ≤ length s → (w : Row) (es : List ℕ) → es ≡ endsOf n w from (fieldsAt s from) → (k : ℕ) →
+pub ends-within : (s : List ℕ) (n from : ℕ) → from ≤ length s → (w : Row) (es : List ℕ) → es ≡ endsOf n w from (fieldsAt s from) zeros → (k : ℕ) →
     getD es k 0 ≤ length s
 ends-within s n from h w es v k =
-    let e : getD es k 0 ≡ getD (endsOf n w from (fieldsAt s from)) k 0 = ap (λ (x : List ℕ). getD x k 0) v in
+    let e : getD es k 0 ≡ getD (endsOf n w from (fieldsAt s from) zeros) k 0 = ap (λ (x : List ℕ). getD x k 0) v in
     omega (arith, e, ends-most n w from (fieldsAt s from) k, fields-end s from h)

@@ -10,7 +10,7 @@ use Rattle.line.specs.Fields.{join}
 use Rattle.field.specs.Field.{right}
 use Rattle.field.specs.declared.Rule.{Rule}
 use Rattle.row.specs.Table.{noRule}
-use Rattle.row.specs.Row.{numbers, amounts, ends, inNine, noted, endsOf}
+use Rattle.row.specs.Row.{numbers, amounts, ends, zeros, inNine, noted, endsOf}
 use Rattle.row.specs.declared.Row.{Row}
 use Rattle.record_line.specs.Fields.{offset}
 use Rattle.record.specs.declared.Place.{Place}
@@ -103,7 +103,7 @@ end-most at (f ∷ g ∷ fs) (suc k) =
     let e : getD (ends (at + length f + 1) (g ∷ fs)) k 0 ≤ at + length f + 1 + length (join (g ∷ fs)) = end-most (at + length f + 1) (g ∷ fs) k in
     omega (arith, e, length-append f (0x2c ∷ join (g ∷ fs)))
 
-pub ends-most : (n : ℕ) (w : Row) (at : ℕ) (fs : List (List ℕ)) (k : ℕ) → getD (endsOf n w at fs) k 0 ≤ at + length (join fs)
+pub ends-most : (n : ℕ) (w : Row) (at : ℕ) (fs : List (List ℕ)) (k : ℕ) → getD (endsOf n w at fs zeros) k 0 ≤ at + length (join fs)
 ends-most n w at fs k =
     cases (noted n w) (λ e. rw e (append-most (ends at fs) _ (at + length (join fs)) (end-most at fs) (λ j. zero-most (9 - length (ends at fs)) j _) k))
     (λ e. rw e (zero-most 9 k _))

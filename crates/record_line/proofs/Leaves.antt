@@ -12,9 +12,9 @@ use Rattle.cells.specs.Test.{Answer as Reading, took, refused}
 use Rattle.cells.proofs.Split.{split}
 use Rattle.supplement.specs.Supplement.{readSupplement}
 use Rattle.supplement.specs.declared.Supplement.{Supplement}
-use Rattle.order.specs.Code.Next.{follow}
+use Rattle.order.specs.Next.{follow}
 use Rattle.schedule.specs.Schedule.{list}
-use Rattle.schedule.specs.Code.Kept.{kept}
+use Rattle.schedule.specs.Kept.{kept}
 use Rattle.schedule.proofs.Laws.{nothing-kept, keeps}
 use Rattle.field.specs.Field.{joined}
 use Rattle.field.specs.declared.Sofar.{Sofar}

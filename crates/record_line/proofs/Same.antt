@@ -8,7 +8,7 @@ use lib.Dec.{eqb}
 use lib.ListN.{length, getD, drop}
 use Rattle.line.specs.Fields.{join}
 use Rattle.supplement.specs.declared.Supplement.{Supplement}
-use Rattle.order.specs.Code.Next.{follow}
+use Rattle.order.specs.Next.{follow}
 use Rattle.field.specs.declared.Sofar.{Sofar}
 use Rattle.row.specs.Row.{fieldsAt}
 use Rattle.row.specs.declared.Row.{Row}

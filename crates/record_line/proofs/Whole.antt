@@ -14,7 +14,7 @@ use Rattle.line.specs.Fields.{join, fieldEnd}
 use Rattle.number.specs.Number.{readNumber, shortest}
 use Rattle.supplement.specs.declared.Supplement.{Supplement}
 use Rattle.order.specs.Order.{some as some-of, header, directions, drug, records}
-use Rattle.order.specs.Code.Next.{follow}
+use Rattle.order.specs.Next.{follow}
 use Rattle.field.specs.declared.Sofar.{Sofar}
 use Rattle.row.specs.Table.{counted}
 use Rattle.row.specs.Row.{fieldsAt, lineEnds, readRow}

@@ -10,13 +10,10 @@ use Rattle.line.specs.Fields.{join}
 use Rattle.number.specs.Amount.{hundredThousandths}
 use Rattle.date.specs.Date.{readDate, date}
 use Rattle.date.specs.declared.Date.{Date}
-use Rattle.date.specs.declared.Made.{Made}
-use Rattle.date.specs.declared.Made.the-variants.{Day, None}
 use Rattle.usage.specs.Usage.{readUsage}
 use Rattle.usage.specs.declared.Instruction.{Instruction}
 use Rattle.supplement.specs.Supplement.{readSupplement}
 use Rattle.supplement.specs.declared.Supplement.{Supplement}
-use Rattle.schedule.specs.Code.Kept.{kept}
 use Rattle.field.specs.Field.{numberOf}
 use Rattle.row.specs.Table.{nth}
 use Rattle.row.specs.Row.{fieldsAt}
@@ -44,9 +41,9 @@ unfoldable pub keptField : List ℕ → KeptFields → ℕ → List ℕ
 keptField s k n = nth n (fieldsAt s (k .fields .from))
 
 -- The date that a field is read as.
-abbrev pub dateIn : Made → Date
-dateIn (Day t) = t
-dateIn None = date 0 0 0 0
+abbrev pub dateIn : Answer Date → Date
+dateIn (took t) = t
+dateIn (refused n p) = date 0 0 0 0
 
 -- The usage code that a field is read as, where it holds one.
 abbrev pub usageIn : Answer Instruction → UsageCode

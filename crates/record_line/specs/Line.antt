@@ -5,12 +5,11 @@ use mathlib.Core.Bool.{Bool, cond}
 use mathlib.Core.List.{List, []}
 use lib.Dec.{eqb}
 use lib.ListN.{length, getD, drop}
+use Rattle.cells.specs.Test.{Answer as Reading, took, refused}
 use Rattle.line.specs.Fields.{join}
 use Rattle.number.specs.Number.{readNumber}
-use Rattle.number.specs.declared.Number.{Number}
-use Rattle.number.specs.declared.Number.the-variants.{Is, Not}
 use Rattle.supplement.specs.declared.Supplement.{Supplement}
-use Rattle.order.specs.Code.Next.{follow}
+use Rattle.order.specs.Next.{follow}
 use Rattle.field.specs.declared.Sofar.{Sofar}
 use Rattle.row.specs.Row.{fieldsAt, readRow}
 use Rattle.row.specs.declared.Row.{Row}
@@ -41,9 +40,9 @@ readFields joins c at n from fs =
     cond (eqb (follow (c .last) n) 0) (fromRow at n from fs (readRow joins c n from fs)) (Refused (refusal (follow (c .last) n) at))
 
 -- A number, 0 where a part is none.
-abbrev pub numberIn : Number → ℕ
-numberIn (Is n) = n
-numberIn Not = 0
+abbrev pub numberIn : Reading ℕ → ℕ
+numberIn (took n) = n
+numberIn (refused n p) = 0
 
 -- The record's number is what stands before the first comma, as written.
 abbrev pub recordNumber : List (List ℕ) → ℕ

@@ -29,7 +29,7 @@ ghost use Rattle.date.specs.Date.{readDate};
 ghost use Rattle.usage.specs.Usage.{readUsage};
 ghost use Rattle.supplement.specs.Supplement.{readSupplement};
 ghost use Rattle.number.specs.Number.{readNumber};
-ghost use Rattle.schedule.specs.Code.Kept.{mayJoin};
+ghost use Rattle.schedule.specs.Kept.{mayJoin};
 ghost use Rattle.record.specs.Record.{textAt};
 ghost use Rattle.record_line.specs.Fields.{keptField, dateIn, usageIn, supplementIn};
 ghost use Rattle.record_line.specs.Line.{refusal as refusalOf, rowRefusal, numberIn, lineAt, passedOf};

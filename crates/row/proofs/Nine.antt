@@ -9,7 +9,7 @@ use native.Mathlib.Numerals.{add-one}
 use lib.Dec.{eqb}
 use lib.ListN.{length, getD, take, drop, drop-of-length-le}
 use lib.Seq.{drop-cons, getD-take}
-use Rattle.cells.specs.Code.Same.{eqs}
+use Rattle.cells.specs.Same.{eqs}
 use Rattle.cells.proofs.Same.{eqs-eq}
 use Rattle.cells.proofs.Split.{split}
 

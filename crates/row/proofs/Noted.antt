@@ -121,10 +121,10 @@ refused-noted n w h = split (typed n) (λ e. rw (e, ne-eqb (w .number) 0 h)) (λ
 pub right-noted : (n : ℕ) (w : Row) → typed n ≡ true → w .number ≡ 0 → noted n w ≡ true
 right-noted n w h k = rw (h, eq-eqb (w .number) 0 k)
 
-module _ (n : ℕ) (w : Row) (at : ℕ) (fs : List (List ℕ)) where
-  pub none-noted : noted n w ≡ false → (zeros ≡ numbersOf n w fs) × (zeros ≡ amountsOf n w fs) × (zeros ≡ endsOf n w at fs)
+module _ (n : ℕ) (w : Row) (at : ℕ) (fs : List (List ℕ)) (ns ms es : List ℕ) where
+  pub none-noted : noted n w ≡ false → (ns ≡ numbersOf n w fs ns) × (ms ≡ amountsOf n w fs ms) × (es ≡ endsOf n w at fs es)
   none-noted h = (rw h, rw h, rw h)
 
   pub all-noted : noted n w ≡ true →
-      (inNine (numbers (rules n fs) fs) ≡ numbersOf n w fs) × (inNine (amounts (rules n fs) fs) ≡ amountsOf n w fs) × (inNine (ends at fs) ≡ endsOf n w at fs)
+      (inNine (numbers (rules n fs) fs) ≡ numbersOf n w fs ns) × (inNine (amounts (rules n fs) fs) ≡ amountsOf n w fs ms) × (inNine (ends at fs) ≡ endsOf n w at fs es)
   all-noted h = (rw h, rw h, rw h)

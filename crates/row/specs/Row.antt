@@ -76,14 +76,14 @@ inNine ns = ns ++ replicate (9 - length ns) 0
 abbrev pub noted : ℕ → Row → Bool
 noted n w = typed n && eqb (w .number) 0
 
--- The nine cells of the fields' numbers, by what the row is read as;
-abbrev pub numbersOf : ℕ → Row → List (List ℕ) → List ℕ
-numbersOf n w fs = cond (noted n w) (inNine (numbers (rules n fs) fs)) zeros
+-- The nine cells of the fields' numbers, by what the row is read as, over what was there before: "lent bytes stay" where nothing is noted;
+abbrev pub numbersOf : ℕ → Row → List (List ℕ) → List ℕ → List ℕ
+numbersOf n w fs before = cond (noted n w) (inNine (numbers (rules n fs) fs)) before
 
 -- of their amounts;
-abbrev pub amountsOf : ℕ → Row → List (List ℕ) → List ℕ
-amountsOf n w fs = cond (noted n w) (inNine (amounts (rules n fs) fs)) zeros
+abbrev pub amountsOf : ℕ → Row → List (List ℕ) → List ℕ → List ℕ
+amountsOf n w fs before = cond (noted n w) (inNine (amounts (rules n fs) fs)) before
 
 -- and of where they end.
-abbrev pub endsOf : ℕ → Row → ℕ → List (List ℕ) → List ℕ
-endsOf n w at fs = cond (noted n w) (inNine (ends at fs)) zeros
+abbrev pub endsOf : ℕ → Row → ℕ → List (List ℕ) → List ℕ → List ℕ
+endsOf n w at fs before = cond (noted n w) (inNine (ends at fs)) before

@@ -6,7 +6,7 @@ use mathlib.Core.List.{List, [], _∷_, _++_, map}
 use lib.Dec.{eqb, leb}
 use lib.ListN.{length, getD, replicate}
 use Rattle.cells.specs.Text.{bytes}
-use Rattle.cells.specs.Code.Same.{eqs}
+use Rattle.cells.specs.Same.{eqs}
 use Rattle.field.specs.Field.{rule, free, required, forbidden, text, drugCode, date, site, usageCode, supplementCode, amount, number, codeKind, newRp, ownRp, drugSerial, supplementSerial}
 use Rattle.field.specs.declared.Rule.{Rule}
 use Rattle.row.specs.declared.Rules.{Rules}

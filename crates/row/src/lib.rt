@@ -7,9 +7,9 @@ ghost use mathlib.Core.Bool.{true};
 ghost use Prim.Native.Nat.{_≤_};
 ghost use lib.ListN.{length};
 ghost use Rattle.cells.specs.Text.{bytes};
-ghost use Rattle.cells.specs.Code.Same.{eqs};
+ghost use Rattle.cells.specs.Same.{eqs};
 ghost use Rattle.field.specs.Field.{rule as ruleOf};
-ghost use Rattle.schedule.specs.Code.Kept.{mayJoin};
+ghost use Rattle.schedule.specs.Kept.{mayJoin};
 ghost use Rattle.row.specs.Table.{mark as markOf, tableOf, rules51, rules101, rules111, rules181, rules201, kindField, codeField, rulesFrom, rulesOf, keptRule, typed as typedOf, nth};
 ghost use Rattle.row.specs.Row.{fieldsAt, lineEnds, refusedAt, miscounted as miscountedRow, fine as fineRow, readRow, zeros, numbersOf, amountsOf, endsOf};
 ghost use Rattle.row.specs.Code.Walk.{needWith, drugNeed, nameNeedOf, widthOf, cutCount, cutEnds, marks, rowFrom, keptFrom, Walked, Filled};
@@ -487,7 +487,7 @@ fn read_counted(
 }
 
 // Reads the fields at a place of the file, of a record of this number. Three arrays take, of a typed record that is not refused, each field's
-// number, its amount, and the place of the comma or CR after it, with zeros after the last field; of any other, zeros.
+// number, its amount, and the place of the comma or CR after it, with zeros after the last field; of any other they stay as they were.
 pub fn read(
     c: Sofar,
     s: &[u8],
@@ -497,22 +497,25 @@ pub fn read(
     amounts: &mut [u64; 9],
     ends: &mut [usize; 9],
 ) -> Row
-    ensures { λ r. ⌜ (r ≡ readRow (mayJoin (c .month) (c .schedule)) c n at (fieldsAt (now (s .entry)) at)) × (now (numbers .exit) ≡ numbersOf n r (fieldsAt (now (s .entry)) at)) × (now (amounts .exit) ≡ amountsOf n r (fieldsAt (now (s .entry)) at)) × (now (ends .exit) ≡ endsOf n r at (fieldsAt (now (s .entry)) at)) ⌝ }
+    ensures { λ r. ⌜ (r ≡ readRow (mayJoin (c .month) (c .schedule)) c n at (fieldsAt (now (s .entry)) at)) × (now (numbers .exit) ≡ numbersOf n r (fieldsAt (now (s .entry)) at) (now (numbers .entry))) × (now (amounts .exit) ≡ amountsOf n r (fieldsAt (now (s .entry)) at) (now (amounts .entry))) × (now (ends .exit) ≡ endsOf n r at (fieldsAt (now (s .entry)) at) (now (ends .entry))) ⌝ }
 {
-    *numbers = [0; 9];
-    *amounts = [0; 9];
-    *ends = [0; 9];
     if s.len() < at {
         return miscounted();
     }
     if !typed(n) {
         return read_kept(c, s, at);
     }
+    let numbers_before = *numbers;
+    let amounts_before = *amounts;
+    let ends_before = *ends;
+    *numbers = [0; 9];
+    *amounts = [0; 9];
+    *ends = [0; 9];
     let w = read_counted(c, s, n, at, numbers, amounts, ends);
     if w.number != 0 {
-        *numbers = [0; 9];
-        *amounts = [0; 9];
-        *ends = [0; 9];
+        *numbers = numbers_before;
+        *amounts = amounts_before;
+        *ends = ends_before;
     }
     w
 }

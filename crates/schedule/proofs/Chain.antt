@@ -13,7 +13,8 @@ use Rattle.days.proofs.Walk.{first-of}
 use Rattle.supplement.specs.declared.Days.{Days}
 use Rattle.supplement.specs.declared.Supplement.{Supplement}
 use Rattle.schedule.specs.Schedule.{dates, dateRun}
-use Rattle.schedule.specs.Code.Kept.{isFull, keepOf, afterDate}
+use Rattle.schedule.specs.Code.Full.{isFull}
+use Rattle.schedule.specs.Kept.{keepOf, afterDate}
 
 -- ---- tests made of tests
 -- two tests of one part and two of the other, part by part
@@ -39,7 +40,7 @@ module _ (issue : ℕ) (a : Supplement) where
 
 -- ---- what is kept of a code
 -- a code has six days where no column is 0
-full-six : (x : Days) → isFull x ≡ eqb (length (sixOf x)) 6
+pub full-six : (x : Days) → isFull x ≡ eqb (length (sixOf x)) 6
 unfolding upto0
 full-six x = go (eqb (x .d1) 0) (eqb (x .d2) 0) (eqb (x .d3) 0) (eqb (x .d4) 0) (eqb (x .d5) 0) (eqb (x .d6) 0)
   where
@@ -59,4 +60,4 @@ pub kept-follows : (issue : ℕ) (a b : Supplement) → afterDate issue (keepOf 
 unfolding afterDate follows
 kept-follows issue a b =
     let x = b .days in
-    rw (full-six (a .days), sym (first-of (x .d1) (x .d2 ∷ x .d3 ∷ x .d4 ∷ x .d5 ∷ x .d6 ∷ []))) refl
+    rw (sym (first-of (x .d1) (x .d2 ∷ x .d3 ∷ x .d4 ∷ x .d5 ∷ x .d6 ∷ []))) refl

@@ -15,7 +15,7 @@ use Rattle.supplement.specs.Supplement.{saying, noWeek, noDays}
 use Rattle.supplement.specs.declared.Supplement.{Supplement}
 use Rattle.days.specs.Run.{upto0, codeOf, distance, lastOf, follows, allowed}
 use Rattle.schedule.specs.Schedule.{dates, dateRun, single, list}
-use Rattle.schedule.specs.Code.Kept.{keepOf, kept, mayJoin}
+use Rattle.schedule.specs.Kept.{keepOf, kept, mayJoin}
 use Rattle.schedule.proofs.Chain.{linked, one-date, more-dates, kept-follows}
 
 clash : {P : Type 0} → false ≡ true → P

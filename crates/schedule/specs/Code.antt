@@ -1,2 +1,2 @@
--- The definitions in the code's shape. `Rattle.schedule.proofs.Laws` says that they decide what `Schedule` says.
-pub mod Kept
+-- The definitions in the code's shape, which the contracts of the private functions cite. No public contract does.
+pub mod Full

@@ -1,2 +1,3 @@
 pub mod Schedule
+pub mod Kept
 pub mod Code

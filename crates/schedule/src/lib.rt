@@ -6,7 +6,8 @@ ghost use mathlib.Core.List.{[]};
 ghost use Rattle.cells.specs.Text.{among};
 ghost use Rattle.days.specs.Run.{distance, lastOf};
 ghost use Rattle.days.specs.Code.Walk.{sixOf};
-ghost use Rattle.schedule.specs.Code.Kept.{kept, mayJoin, keepOf, afterDate, isFull};
+ghost use Rattle.schedule.specs.Code.Full.{isFull};
+ghost use Rattle.schedule.specs.Kept.{kept, mayJoin, keepOf, afterDate};
 
 // The letter of the last supplement, 0 where there is none yet; of a date code its month, its last day, and whether it has six days.
 pub struct Schedule {

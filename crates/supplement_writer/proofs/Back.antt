@@ -9,16 +9,15 @@ use native.Mathlib.Omega.{arith}
 use borrow.Author.Tests.{ne-eqb}
 use lib.Dec.{eqb}
 use lib.ListN.{length, getD}
-use Rattle.cells.specs.Text.{among, index, digit}
+use Rattle.cells.specs.Text.{among, index, digit, letter}
 use Rattle.cells.specs.Test.{first}
 use Rattle.cells.specs.Cells.{char, Cell, set, risingUpto, cells}
-use Rattle.cells.specs.Code.Mask.{letter}
 use Rattle.cells.proofs.Split.{split}
 use Rattle.cells.proofs.Alike.{each}
 use Rattle.cells.proofs.Back.{passed, taken, setAt, in-sets}
 use Rattle.supplement.specs.Supplement.{to31, to35, lastDay, intervalCells, weekCells, moreDays, dateCells, countCells, amountCells, rest, tests, says}
 use Rattle.supplement.specs.Amount.{columns, nothing}
-use Rattle.supplement_writer.specs.Code.Write.{raw}
+use Rattle.supplement_writer.specs.Print.{raw}
 use Rattle.supplement.proofs.Clean.{known, clean, amounts}
 use Rattle.supplement.proofs.Eight.{tab, spread}
 use Rattle.supplement_writer.proofs.Print.{columns-back}

@@ -14,7 +14,7 @@ use Rattle.cells.proofs.Writing as writing
 use Rattle.supplement.specs.Supplement.{tests, says, readSupplement}
 use Rattle.supplement.specs.declared.Supplement.{Supplement}
 use Rattle.supplement_writer.specs.Writes.{WritesSupplement}
-use Rattle.supplement_writer.specs.Code.Write.{raw}
+use Rattle.supplement_writer.specs.Print.{raw}
 use Rattle.supplement_writer.specs.declared.Written.{Written}
 use Rattle.supplement_writer.proofs.Back.{eight}
 

@@ -12,7 +12,7 @@ use Rattle.cells.proofs.Split.{split}
 use Rattle.cells.proofs.Alike.{each}
 use Rattle.supplement.specs.Amount.{figures}
 use Rattle.supplement.specs.Code.Read.{withFigure}
-use Rattle.supplement_writer.specs.Code.Write.{width, figureAt}
+use Rattle.supplement_writer.specs.Print.{width, figureAt}
 use Rattle.supplement.proofs.Columns.{one-figure}
 use Rattle.supplement.proofs.Shape.{Digits, one-less}
 

@@ -17,7 +17,7 @@ use Rattle.cells.specs.declared.Fault.{Fault}
 use Rattle.cells.proofs.Split.{split}
 use Rattle.supplement.specs.Amount.{figures, Figures, Allowed, nothing, columns, figuresOf, decimalsOf, placesOf}
 use Rattle.supplement.specs.Code.Read.{withFigure}
-use Rattle.supplement_writer.specs.Code.Write.{width, whole, column, columnsOf}
+use Rattle.supplement_writer.specs.Print.{width, whole, column, columnsOf}
 use Rattle.supplement.proofs.Eight.{of-eight, spread}
 use Rattle.supplement.proofs.Columns.{figure-point}
 use Rattle.supplement.proofs.Shape.{Digits, no-digits, one-more, one-less, Fraction, stop, over, allowed}

@@ -6,14 +6,15 @@ use mathlib.Core.Bool.{Bool, true, false}
 use native.Mathlib.Omega.{arith}
 use lib.ListN.{getD}
 use Rattle.cells.specs.Test.{Answer, took, refused}
-use Rattle.cells.specs.Code.Same.{eqs}
+use Rattle.cells.specs.Same.{eqs}
 use Rattle.cells.proofs.Alike.{and-left, and-right}
 use Rattle.cells.proofs.Same.{eqs-eq, eqs-self}
 use Rattle.cells.proofs.Writing.{writes}
 use Rattle.supplement.specs.Supplement.{readSupplement}
 use Rattle.supplement.specs.declared.Supplement.{Supplement}
 use Rattle.supplement_writer.specs.Writes.{WritesSupplement}
-use Rattle.supplement_writer.specs.Code.Write.{raw, ofHead, ofWeek, ofDays, same, agrees, answer}
+use Rattle.supplement_writer.specs.Code.Write.{answer}
+use Rattle.supplement_writer.specs.Print.{raw, ofHead, ofWeek, ofDays, same, agrees}
 use Rattle.supplement_writer.proofs.Laws.{back}
 
 -- two records that compare as equal are equal

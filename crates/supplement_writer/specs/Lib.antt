@@ -1,2 +1,3 @@
+pub mod Print
 pub mod Writes
 pub mod Code

@@ -5,10 +5,11 @@ use supplement::Supplement;
 use supplement::Week;
 ghost use mathlib.Core.Path.{_≡_};
 ghost use Prim.Native.Nat.{_+_, _-_, _<_, _≤_};
-ghost use Rattle.cells.specs.Code.Same.{eqs};
+ghost use Rattle.cells.specs.Same.{eqs};
 ghost use Rattle.supplement.specs.Supplement.{said};
 ghost use Rattle.supplement_writer.specs.Writes.{WritesSupplement};
-ghost use Rattle.supplement_writer.specs.Code.Write.{width as widthOf, whole as wholeOf, figureAt, column as columnOf, rawInterval, rawWeek, rawDate, rawCount, rawAmount, raw as rawOf, ofWeek, ofDays, ofHead, same as sameOf, agrees as agreesOf, answer as answerOf};
+ghost use Rattle.supplement_writer.specs.Code.Write.{answer as answerOf};
+ghost use Rattle.supplement_writer.specs.Print.{width as widthOf, whole as wholeOf, figureAt, column as columnOf, rawInterval, rawWeek, rawDate, rawCount, rawAmount, raw as rawOf, ofWeek, ofDays, ofHead, same as sameOf, agrees as agreesOf};
 
 // The number is 0, and the code the eight characters; or the number is 35, and the code eight 0 bytes.
 pub struct Written {

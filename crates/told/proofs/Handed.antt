@@ -12,8 +12,8 @@ use Rattle.cells.proofs.Split.{split as cases}
 use Rattle.cells.proofs.Alike.{and-left}
 use Rattle.number.specs.Number.{readNumber}
 use Rattle.supplement.specs.declared.Supplement.{Supplement}
-use Rattle.order.specs.Code.Next.{closes}
-use Rattle.field.specs.Field.{rule, required, free, isNumber, numberOf, valued, wrong}
+use Rattle.order.specs.Next.{closes}
+use Rattle.field.specs.Field.{rule, required, free, isTaken, numberOf, valued, wrong}
 use Rattle.field.specs.declared.Sofar.{Sofar}
 use Rattle.row.specs.Table.{nth, typed, rules, rulesFrom}
 use Rattle.record_line.specs.Fields.{recordOf}
@@ -40,7 +40,7 @@ use Rattle.told.proofs.Fields.{number-in, number-most, date-fits, usage
 module _ (joins : Supplement → Bool) (c : Sofar) where
   -- a field that passes a rule of numbers: none of them allows more than 999
   small : (need form lo hi : ℕ) → hi ≤ 999 →
-      ((f : List ℕ) → valued (rule need form lo hi) f ≡ true → isNumber (readNumber lo hi f) ≡ true) →
+      ((f : List ℕ) → valued (rule need form lo hi) f ≡ true → isTaken (readNumber lo hi f) ≡ true) →
       (f : List ℕ) → wrong joins c (rule need form lo hi) f ≡ 0 → numberOf f ≤ 65535
   small need form lo hi l is f h = omega (arith, number-most joins c need form lo hi is f h)
 

@@ -9,15 +9,14 @@ use native.Mathlib.Omega.{arith}
 use borrow.Author.Tests.{eq-eqb, eqb-true}
 use lib.Dec.{eqb}
 use lib.ListN.{length}
-use Rattle.cells.specs.Text.{among, index, at, digit}
+use Rattle.cells.specs.Text.{among, index, at, digit, letter}
 use Rattle.cells.specs.Test.{test, first}
 use Rattle.cells.specs.Cells.{char, set, cells}
-use Rattle.cells.specs.Code.Mask.{letter}
 use Rattle.cells.proofs.Split.{split}
 use Rattle.cells.proofs.Alike.{and-left, and-right, alike, each}
 use Rattle.cells.proofs.Back.{passed, in-sets}
 use Rattle.usage.specs.Usage.{hour, used, details, kinds, frame, mealCells, counted, atFifteen, everyCells, clockCells, Rows, table8, inTable, row, limitCells, outsideCells, pairs, inPairs, timing, says}
-use Rattle.usage_writer.specs.Code.Write.{hourLetter, mark, tail, raw}
+use Rattle.usage_writer.specs.Print.{hourLetter, mark, tail, raw}
 use Rattle.usage.proofs.Masks.{bit}
 use Rattle.usage_writer.proofs.Printed.{part, whole, kept, printed}
 

@@ -14,7 +14,7 @@ use Rattle.cells.proofs.Writing as writing
 use Rattle.usage.specs.Usage.{frame, timing, says, readUsage}
 use Rattle.usage.specs.declared.Instruction.{Instruction}
 use Rattle.usage_writer.specs.Writes.{WritesUsage}
-use Rattle.usage_writer.specs.Code.Write.{raw}
+use Rattle.usage_writer.specs.Print.{raw}
 use Rattle.usage_writer.specs.declared.Written.{Written}
 use Rattle.usage_writer.proofs.Back.{sixteen}
 

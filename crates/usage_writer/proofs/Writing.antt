@@ -8,14 +8,15 @@ use native.Mathlib.Omega.{arith}
 use lib.Dec.{eqb}
 use lib.ListN.{length, getD}
 use Rattle.cells.proofs.Split.{split}
-use Rattle.cells.specs.Code.Same.{eqs}
+use Rattle.cells.specs.Same.{eqs}
 use Rattle.cells.proofs.Alike.{and-left, and-right}
 use Rattle.cells.proofs.Same.{eqs-eq, eqs-self}
 use Rattle.cells.proofs.Writing.{writes}
 use Rattle.usage.specs.Usage.{readUsage, said}
 use Rattle.usage.proofs.Laws.{one-reading}
 use Rattle.usage_writer.specs.Writes.{WritesUsage}
-use Rattle.usage_writer.specs.Code.Write.{tail, raw, ofHead, ofOccasions, ofHours, ofEvent, same, agrees, answer}
+use Rattle.usage_writer.specs.Code.Write.{agrees, answer}
+use Rattle.usage_writer.specs.Print.{tail, raw, ofHead, ofOccasions, ofHours, ofEvent, same}
 use Rattle.usage.specs.declared.Instruction.{Instruction}
 use Rattle.usage.specs.declared.Reading.{Reading}
 use Rattle.usage.specs.declared.Reading.the-variants.{Taken, Refused}

@@ -5,9 +5,10 @@ use usage::Instruction;
 use usage::Occasions;
 use usage::Reading;
 ghost use mathlib.Core.Path.{_≡_};
-ghost use Rattle.cells.specs.Code.Same.{eqs};
+ghost use Rattle.cells.specs.Same.{eqs};
 ghost use Rattle.usage_writer.specs.Writes.{WritesUsage};
-ghost use Rattle.usage_writer.specs.Code.Write.{hourLetter, mark as markOf, dayTail, clockTail, eventTail, loneTail, tail as tailOf, raw as rawOf, ofHead, ofOccasions, ofHours, ofEvent, same as sameOf, agrees as agreesOf, answer as answerOf};
+ghost use Rattle.usage_writer.specs.Code.Write.{agrees as agreesOf, answer as answerOf};
+ghost use Rattle.usage_writer.specs.Print.{hourLetter, mark as markOf, dayTail, clockTail, eventTail, loneTail, tail as tailOf, raw as rawOf, ofHead, ofOccasions, ofHours, ofEvent, same as sameOf};
 
 // The number is 0, and the code the sixteen characters; or the number is 35, and the code sixteen 0 bytes.
 pub struct Written {

@@ -11,8 +11,8 @@ use lib.ListN.{length, set, length-append}
 use lib.Seq.{sets}
 use Rattle.cells.specs.Text.{bytes}
 use Rattle.supplement.specs.declared.Supplement.{Supplement}
-use Rattle.order.specs.Code.Next.{closes}
-use Rattle.schedule.specs.Code.Kept.{mayJoin}
+use Rattle.order.specs.Next.{closes}
+use Rattle.schedule.specs.Kept.{mayJoin}
 use Rattle.record.specs.Record.{start, after}
 use Rattle.record_line.specs.Line.{readParts}
 use Rattle.record.specs.declared.Answer.{Answer}

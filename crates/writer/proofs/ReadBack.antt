@@ -13,9 +13,9 @@ use Rattle.cells.proofs.Split.{split as cases}
 use Rattle.line.specs.Frame.{plainLines, file}
 use Rattle.line.specs.Fields.{split}
 use Rattle.supplement.specs.declared.Supplement.{Supplement}
-use Rattle.order.specs.Code.Next.{closes}
+use Rattle.order.specs.Next.{closes}
 use Rattle.schedule.specs.Schedule.{list}
-use Rattle.schedule.specs.Code.Kept.{mayJoin}
+use Rattle.schedule.specs.Kept.{mayJoin}
 use Rattle.field.specs.declared.Sofar.{Sofar}
 use Rattle.record.specs.Record.{after, supplements}
 use Rattle.record_line.specs.Line.{readParts}

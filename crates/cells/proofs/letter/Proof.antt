@@ -1,6 +1,6 @@
 -- Each answer is the rule's, by the tests that led to it.
 use Rattle.cells.proofs.Tests.{tests}
-use Rattle.cells.specs.Code.Mask.{letter}
+use Rattle.cells.specs.Text.{letter}
 use borrow.Author.Needs.{needs}
 use Rattle.cells.proofs.letter.Statement.{statement}
 use Rattle.cells.proofs.letter.Tie as tie

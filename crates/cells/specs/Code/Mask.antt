@@ -12,10 +12,6 @@ use Rattle.cells.specs.declared.Fault.{Fault}
 unfoldable pub value : ℕ → ℕ
 value c = cond (ltb c 48) 36 (cond (leb c 57) (c - 48) (cond (ltb c 65) 36 (cond (leb c 90) (c - 55) 36)))
 
--- the character of a value; 0 where there is none
-unfoldable pub letter : ℕ → ℕ
-letter v = cond (ltb v 10) (48 + v) (cond (ltb v 36) (55 + v) 0)
-
 -- bit v of a mask
 unfoldable pub has : ℕ → ℕ → Bool
 has m v = cond (ltb 36 v) false (eqb (m / 2 ^ v % 2) 1)

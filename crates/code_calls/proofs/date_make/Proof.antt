@@ -1,6 +1,6 @@
 -- By the calls.
 use mathlib.Core.Path.{_∙_}
-use Rattle.code_calls.specs.Answers.{madeNumber, madeNumbers, madeText}
+use Rattle.code_calls.specs.Answers.{number, orBefore, dateNumbers, dateText}
 use borrow.Author.Needs.{needs}
 use Rattle.code_calls.proofs.date_make.Statement.{statement}
 use Rattle.code_calls.proofs.date_make.Tie as tie
@@ -22,9 +22,9 @@ returns c =
     let a = c .before .before .before .before .before .before .args in
     let m = c .before .before .before .before .before .made in
     record {
-      returns = c .made-number .ensures ∙ (λ i. madeNumber (m .ensures i));
-      leaves = c .before .before .before .made-numbers .ensures ∙ (λ i. madeNumbers (m .ensures i) (a .numbers .now));
-      writes = c .before .made-text .ensures ∙ (λ i. madeText (m .ensures i) (a .text .now));
+      returns = c .made-number .ensures ∙ (λ i. number (m .ensures i));
+      leaves = c .before .before .before .made-numbers .ensures ∙ (λ i. orBefore dateNumbers (m .ensures i) (a .numbers .now));
+      writes = c .before .made-text .ensures ∙ (λ i. orBefore dateText (m .ensures i) (a .text .now));
     }
 
 pub date-make-spec : {M : Type 1} → statement M

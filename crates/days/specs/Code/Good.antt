@@ -3,7 +3,7 @@
 use Prim.Native.Nat.{ℕ, zero, suc, _+_, _≤_, _<_}
 use mathlib.Core.List.{List, [], _∷_}
 use lib.ListN.{length, drop}
-use Rattle.cells.specs.Code.Mask.{letter}
+use Rattle.cells.specs.Text.{letter}
 use Rattle.supplement.specs.Supplement.{lastDay}
 use Rattle.days.specs.Run.{Code}
 

@@ -1,7 +1,7 @@
 -- `Laws` says that the parts are judged as the reader judges the fields.
 use mathlib.Core.Path.{_∙_}
 use lib.ListN.{getD}
-use Rattle.schedule.specs.Code.Kept.{mayJoin}
+use Rattle.schedule.specs.Kept.{mayJoin}
 use Rattle.laid.specs.Laid.{laid}
 use Rattle.entry.specs.Code.Judge.{wrongIn}
 use Rattle.entry.proofs.Laws.{as-entry}

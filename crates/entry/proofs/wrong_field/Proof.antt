@@ -8,7 +8,7 @@ use borrow.Author.Needs.{needs}
 use lib.ListN.{getD}
 use Rattle.row.specs.Table.{kindField, codeField}
 use Rattle.row.specs.declared.Rules.{Rules}
-use Rattle.schedule.specs.Code.Kept.{mayJoin}
+use Rattle.schedule.specs.Kept.{mayJoin}
 use Rattle.laid.specs.Laid.{noField, textOr, Laid, laid}
 use Rattle.entry.specs.Code.Judge.{kindMark, tableBy, tableIn, wrongFrom, wrongTyped}
 use Rattle.entry.proofs.Walk.{kind-most, code-most, few-rules, wrong-here, wrong-later}

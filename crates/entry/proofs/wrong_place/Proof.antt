@@ -4,7 +4,7 @@ use Rattle.entry.proofs.wrong_place.Statement.{statement}
 use Rattle.entry.proofs.wrong_place.Tie as tie
 use mathlib.Core.Path.{_∙_}
 use Rattle.field.specs.Field.{readField}
-use Rattle.schedule.specs.Code.Kept.{mayJoin}
+use Rattle.schedule.specs.Kept.{mayJoin}
 
 slice-aggregate-text : tie.Need-slice-aggregate-text
 slice-aggregate-text c = search needs

@@ -4,7 +4,7 @@ use mathlib.Core.Path.{_≡_, refl, _∙_, sym, ap}
 use native.Mathlib.Omega.{arith}
 use borrow.Author.Needs.{needs}
 use lib.ListN.{length, drop}
-use Rattle.schedule.specs.Code.Kept.{mayJoin}
+use Rattle.schedule.specs.Kept.{mayJoin}
 use Rattle.line.specs.Fields.{split}
 use Rattle.field.specs.declared.Field.{Field}
 use Rattle.entry.specs.Code.Judge.{textsWrong}

@@ -4,7 +4,7 @@ use Rattle.entry.proofs.wrong_texts.Statement.{statement}
 use Rattle.entry.proofs.wrong_texts.Tie as tie
 use mathlib.Core.Path.{_∙_}
 use Rattle.line.specs.Fields.{split}
-use Rattle.schedule.specs.Code.Kept.{mayJoin}
+use Rattle.schedule.specs.Kept.{mayJoin}
 use Rattle.entry.specs.Code.Judge.{textsWrong}
 
 slice-aggregate-text : tie.Need-slice-aggregate-text

@@ -1,8 +1,9 @@
 -- By the two answers of the reader, then by the code kind and the order.
 -- Assumes nothing.
-use mathlib.Core.Path.{_∙_, sym}
+use mathlib.Core.Path.{_∙_, sym, ap}
 use native.Mathlib.Omega.{arith}
 use borrow.Author.Tests.{not-true, not-false}
+use Rattle.number.specs.Number.{said}
 use Rattle.field.proofs.Bridge.{no-number, five, disordered, as-number}
 use borrow.Author.Needs.{needs}
 use Rattle.field.proofs.read_number.Statement.{statement}
@@ -25,7 +26,7 @@ returns c =
     let d = c .before .before .before .before in
     let s = d .before .before .before .before in
     let a = s .args in
-    c .refused .ensures ∙ sym (five _ (a .c) (a .r) (a .f .now) (s .pre) (omega (arith, s .good)) (d .m .given .0 .0) (sym (d .before .before .read .ensures) ∙ d .m .given .1) (c .before .if1 .taken))
+    c .refused .ensures ∙ sym (five _ (a .c) (a .r) (a .f .now) (s .pre) (omega (arith, s .good)) (d .m .given .0 .0) (sym (d .before .before .read .ensures) ∙ ap said (d .m .given .1)) (c .before .if1 .taken))
 
 ordered-requires : tie.Need-ordered-requires
 ordered-requires c κs = search needs
@@ -39,7 +40,7 @@ returns-2 c =
     let d = o .before .before .before .before in
     let s = d .before .before .before .before in
     let a = s .args in
-    c .refused2 .ensures ∙ sym (disordered _ (a .c) (a .r) (a .f .now) (s .pre) (omega (arith, s .good)) (d .m .given .0 .0) (sym (d .before .before .read .ensures) ∙ d .m .given .1) (o .before .if1 .left) (sym (o .ordered .ensures) ∙ not-true _ (c .before .if2 .taken)))
+    c .refused2 .ensures ∙ sym (disordered _ (a .c) (a .r) (a .f .now) (s .pre) (omega (arith, s .good)) (d .m .given .0 .0) (sym (d .before .before .read .ensures) ∙ ap said (d .m .given .1)) (o .before .if1 .left) (sym (o .ordered .ensures) ∙ not-true _ (c .before .if2 .taken)))
 
 enum-told : tie.Need-enum-told
 enum-told c = search needs
@@ -53,14 +54,14 @@ returns-3 c =
     let d = o .before .before .before .before in
     let s = d .before .before .before .before in
     let a = s .args in
-    sym (as-number _ (a .c) (a .r) (a .f .now) (s .pre) (omega (arith, s .good)) (d .m .given .0 .0) (sym (d .before .before .read .ensures) ∙ d .m .given .1) (o .before .if1 .left) (sym (o .ordered .ensures) ∙ not-false _ (c .if2 .left)))
+    sym (as-number _ (a .c) (a .r) (a .f .now) (s .pre) (omega (arith, s .good)) (d .m .given .0 .0) (sym (d .before .before .read .ensures) ∙ ap said (d .m .given .1)) (o .before .if1 .left) (sym (o .ordered .ensures) ∙ not-false _ (c .if2 .left)))
 
 returns-4 : tie.Need-returns-4
 returns-4 c =
     let d = c .before in
     let s = d .before .before .before .before in
     let a = s .args in
-    c .refused3 .ensures ∙ sym (no-number _ (a .c) (a .r) (a .f .now) (s .pre) (sym (d .before .before .read .ensures) ∙ d .enum-told .given .1))
+    c .refused3 .ensures ∙ sym (no-number _ (a .c) (a .r) (a .f .now) (s .pre) (sym (d .before .before .read .ensures) ∙ ap said (d .enum-told .given .1)))
 
 pub read-number-spec : {M : Type 1} → statement M
 read-number-spec =

@@ -5,8 +5,6 @@ use mathlib.Core.Bool.{Bool, cond}
 use mathlib.Core.List.{List}
 use lib.Dec.{eqb}
 use Rattle.cells.specs.Test.{fault, first, Answer, took, refused}
-use Rattle.number.specs.declared.Number.{Number}
-use Rattle.number.specs.declared.Number.the-variants.{Is, Not}
 use Rattle.usage.specs.Usage.{readUsage}
 use Rattle.usage.specs.declared.Instruction.{Instruction}
 use Rattle.supplement.specs.Supplement.{readSupplement}
@@ -40,9 +38,9 @@ abbrev pub formedIf : Bool → Field
 formedIf b = cond b (refusedWith 0 (fault 0 0)) (refusedWith 27 (fault 0 0))
 
 -- An amount.
-abbrev pub amountField : Number → Field
-amountField (Is n) = record { number = 0; code = 0; place = 0; n = 0; amount = n }
-amountField Not = refusedWith 27 (fault 0 0)
+abbrev pub amountField : Answer ℕ → Field
+amountField (took n) = record { number = 0; code = 0; place = 0; n = 0; amount = n }
+amountField (refused k p) = refusedWith 27 (fault 0 0)
 
 -- What a field is read as by the number of what is wrong with it.
 abbrev pub readBy : Rule → List ℕ → ℕ → Field

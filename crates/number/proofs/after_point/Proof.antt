@@ -3,7 +3,7 @@
 use Prim.Native.Nat.{_-_}
 use lib.ListN.{length, replicate}
 use Rattle.number.specs.Number.{value}
-use Rattle.number.specs.declared.Number.the-variants.{Is}
+use Rattle.cells.specs.Test.{took}
 use mathlib.Core.Path.{_∙_, sym}
 use borrow.Author.Needs.{needs}
 use Rattle.number.proofs.Whole.{fraction-parts, fraction-fits, point-some, point-none}
@@ -30,7 +30,7 @@ with-zeros-requires c κs =
 returns : tie.Need-returns
 returns c =
     let a = c .before .before .before .before .before .args in
-    (λ i. Is ((c .with-zeros .ensures ∙ (λ j. value (c .before .value .ensures j) (replicate (5 - length (a .s .now)) 48))) i)) ∙ sym (point-some (a .n) (a .s .now) (sym (c .before .before .before .fraction .ensures) ∙ c .before .before .if1 .taken))
+    (λ i. took ((c .with-zeros .ensures ∙ (λ j. value (c .before .value .ensures j) (replicate (5 - length (a .s .now)) 48))) i)) ∙ sym (point-some (a .n) (a .s .now) (sym (c .before .before .before .fraction .ensures) ∙ c .before .before .if1 .taken))
 
 returns-2 : tie.Need-returns-2
 returns-2 c =

@@ -1,6 +1,6 @@
 -- The answer is the rule as it stands.
 use borrow.Author.Needs.{needs}
-use Rattle.order.specs.Code.Next.{anew}
+use Rattle.order.specs.Next.{anew}
 use Rattle.order.proofs.anew.Statement.{statement}
 use Rattle.order.proofs.anew.Tie as tie
 

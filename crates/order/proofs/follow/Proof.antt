@@ -1,7 +1,7 @@
 -- Each answer is the rule's, from what the calls ensure and the tests that led to it.
 use mathlib.Core.Path.{_∙_, sym}
 use borrow.Author.Needs.{needs}
-use Rattle.order.specs.Code.Next.{follow}
+use Rattle.order.specs.Next.{follow}
 use Rattle.order.proofs.follow.Statement.{statement}
 use Rattle.order.proofs.follow.Tie as tie
 

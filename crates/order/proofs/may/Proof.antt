@@ -2,7 +2,7 @@
 use mathlib.Core.Path.{_∙_, sym, ap}
 use mathlib.Core.Bool.{not}
 use borrow.Author.Needs.{needs}
-use Rattle.order.specs.Code.Next.{may}
+use Rattle.order.specs.Next.{may}
 use Rattle.order.proofs.may.Statement.{statement}
 use Rattle.order.proofs.may.Tie as tie
 

@@ -1,6 +1,6 @@
 -- Each answer is the rule's, by the tests that led to it.
 use borrow.Author.Tests.{le-leb, lt-leb, lt-ltb, le-ltb}
-use Rattle.order.specs.Code.Next.{refusal}
+use Rattle.order.specs.Next.{refusal}
 use Rattle.order.proofs.refusal.Statement.{statement}
 use Rattle.order.proofs.refusal.Tie as tie
 

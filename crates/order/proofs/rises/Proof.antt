@@ -1,6 +1,6 @@
 -- The answer is the rule as it stands.
 use borrow.Author.Needs.{needs}
-use Rattle.order.specs.Code.Next.{repeats, rises}
+use Rattle.order.specs.Next.{repeats, rises}
 use Rattle.order.proofs.rises.Statement.{statement}
 use Rattle.order.proofs.rises.Tie as tie
 

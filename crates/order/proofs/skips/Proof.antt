@@ -7,7 +7,7 @@ use native.Mathlib.Omega.{arith}
 use borrow.Author.Needs.{needs}
 use lib.ListN.{drop}
 use Rattle.order.specs.Order.{some, header, directions, drug}
-use Rattle.order.specs.Code.Next.{stops, between, skips}
+use Rattle.order.specs.Next.{stops, between, skips}
 use Rattle.order.proofs.Search.{step}
 use Rattle.order.proofs.skips.Statement.{statement}
 use Rattle.order.proofs.skips.Tie as tie

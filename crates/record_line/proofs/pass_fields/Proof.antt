@@ -6,7 +6,7 @@ use native.Mathlib.Omega.{arith}
 use lib.ListN.{length, getD}
 use Rattle.line.specs.Fields.{join}
 use Rattle.row.specs.Row.{fieldsAt}
-use Rattle.schedule.specs.Code.Kept.{mayJoin}
+use Rattle.schedule.specs.Kept.{mayJoin}
 use Rattle.record_line.specs.Line.{passedOf}
 use Rattle.record.specs.declared.Passed.the-variants.{Refused}
 use Rattle.record_line.proofs.Built.{row-after, fields-end, ends-within, took-on, right-line, wrong-line}

@@ -6,7 +6,7 @@ use native.Mathlib.Omega.{arith}
 use lib.ListN.{length, getD}
 use Rattle.line.specs.Fields.{join}
 use Rattle.row.specs.Row.{fieldsAt}
-use Rattle.schedule.specs.Code.Kept.{mayJoin}
+use Rattle.schedule.specs.Kept.{mayJoin}
 use Rattle.record_line.specs.Code.Built.{refusedLine}
 use Rattle.record_line.proofs.Built.{row-after, fields-end, ends-within, took-line, right-line, wrong-line}
 use Rattle.record_line.proofs.read_fields.Statement.{statement}

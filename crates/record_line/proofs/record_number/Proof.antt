@@ -9,7 +9,7 @@ use borrow.Author.Needs.{needs}
 use lib.Dec.{leb}
 use Rattle.cells.proofs.Alike.{and-parts}
 use Rattle.cells.proofs.Split.{split}
-use Rattle.number.specs.Number.{value, shortest, readNumber}
+use Rattle.number.specs.Number.{said, value, shortest, readNumber}
 use Rattle.record_line.specs.Line.{numberIn}
 use Rattle.record_line.proofs.record_number.Statement.{statement}
 use Rattle.record_line.proofs.record_number.Tie as tie
@@ -38,7 +38,7 @@ returns : tie.Need-returns
 returns c =
     let f = c .before .before .before .before .before .args .f .now in
     let e : c .before .n .given .0 .0 ≡ numberIn (readNumber 1 999 f) =
-    ap numberIn (sym (c .before .n .given .1) ∙ c .before .before .before .read .ensures) in
+    ap numberIn (sym (ap said (c .before .n .given .1)) ∙ c .before .before .before .read .ensures) in
     omega (arith, e, small f)
 
 returns-2 : tie.Need-returns-2

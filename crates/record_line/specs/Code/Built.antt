@@ -11,7 +11,7 @@ use Rattle.usage.specs.Usage.{readUsage}
 use Rattle.supplement.specs.Supplement.{readSupplement}
 use Rattle.supplement.specs.declared.Supplement.{Supplement}
 use Rattle.field.specs.declared.Sofar.{Sofar}
-use Rattle.row.specs.Row.{fieldsAt, readRow, numbersOf, amountsOf, endsOf}
+use Rattle.row.specs.Row.{fieldsAt, readRow, zeros, numbersOf, amountsOf, endsOf}
 use Rattle.row.specs.declared.Row.{Row}
 use Rattle.record.specs.Record.{textAt, after}
 use Rattle.record_line.specs.Fields.{dateIn, usageIn, supplementIn}
@@ -102,7 +102,7 @@ builtOf n s ns ms es fields =
 -- The record of a row whose fields are right, of which the first begins at `from`; `after` is the place after the line's CR.
 abbrev pub rowRecord : ℕ → List ℕ → ℕ → Row → Record
 rowRecord n s from w =
-    builtOf n s (numbersOf n w (fieldsAt s from)) (amountsOf n w (fieldsAt s from)) (endsOf n w from (fieldsAt s from))
+    builtOf n s (numbersOf n w (fieldsAt s from) zeros) (amountsOf n w (fieldsAt s from) zeros) (endsOf n w from (fieldsAt s from) zeros)
     (record { from = from; to = w .after - 1 })
 
 -- A line that is refused.

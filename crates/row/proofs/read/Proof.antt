@@ -7,7 +7,7 @@ use native.Mathlib.Omega.{arith}
 use borrow.Author.Needs.{needs}
 use borrow.Author.Tests.{not-true, not-false}
 use Rattle.supplement.specs.declared.Supplement.{Supplement}
-use Rattle.schedule.specs.Code.Kept.{mayJoin}
+use Rattle.schedule.specs.Kept.{mayJoin}
 use Rattle.row.specs.Table.{typed}
 use Rattle.row.specs.Row.{fieldsAt, readRow}
 use Rattle.row.specs.declared.Row.{Row}

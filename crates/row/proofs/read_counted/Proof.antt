@@ -7,7 +7,7 @@ use native.Mathlib.Omega.{arith}
 use borrow.Author.Needs.{needs}
 use lib.ListN.{length}
 use Rattle.supplement.specs.declared.Supplement.{Supplement}
-use Rattle.schedule.specs.Code.Kept.{mayJoin}
+use Rattle.schedule.specs.Kept.{mayJoin}
 use Rattle.field.specs.declared.Rule.{Rule}
 use Rattle.row.specs.Table.{rules, rulesOf}
 use Rattle.row.specs.Row.{fieldsAt, numbers, amounts, inNine}

@@ -12,7 +12,7 @@ use lib.Seq.{slice}
 use Rattle.cells.proofs.Split.{split}
 use Rattle.line.specs.Fields.{fieldEnd}
 use Rattle.supplement.specs.declared.Supplement.{Supplement}
-use Rattle.schedule.specs.Code.Kept.{mayJoin}
+use Rattle.schedule.specs.Kept.{mayJoin}
 use Rattle.field.specs.Field.{free, text, readField}
 use Rattle.field.specs.declared.Rule.{Rule}
 use Rattle.field.specs.declared.Sofar.{Sofar}

@@ -15,7 +15,7 @@ use Rattle.cells.proofs.Split.{split}
 use Rattle.cells.proofs.Alike.{and-left, and-right}
 use Rattle.line.specs.Fields.{fieldEnd}
 use Rattle.supplement.specs.declared.Supplement.{Supplement}
-use Rattle.schedule.specs.Code.Kept.{mayJoin}
+use Rattle.schedule.specs.Kept.{mayJoin}
 use Rattle.field.specs.Field.{right, readField}
 use Rattle.field.specs.declared.Rule.{Rule}
 use Rattle.field.specs.declared.Sofar.{Sofar}

@@ -5,7 +5,7 @@ use native.Mathlib.Omega.{arith}
 use borrow.Author.Needs.{needs}
 use borrow.Author.Tests.{eq-eqb, ne-eqb, lt-ltb, le-ltb}
 use lib.Dec.{ltb}
-use Rattle.schedule.specs.Code.Kept.{afterDate}
+use Rattle.schedule.specs.Kept.{afterDate}
 use Rattle.schedule.proofs.after_date.Statement.{statement}
 use Rattle.schedule.proofs.after_date.Tie as tie
 

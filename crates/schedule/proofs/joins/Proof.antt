@@ -2,7 +2,7 @@
 -- Assumes nothing.
 use borrow.Author.Needs.{needs}
 use borrow.Author.Tests.{eq-eqb, ne-eqb}
-use Rattle.schedule.specs.Code.Kept.{mayJoin}
+use Rattle.schedule.specs.Kept.{mayJoin}
 use Rattle.schedule.proofs.joins.Statement.{statement}
 use Rattle.schedule.proofs.joins.Tie as tie
 

@@ -1,7 +1,7 @@
 -- The answer is the definition's.
 -- Assumes nothing.
 use mathlib.Core.Path.{refl}
-use Rattle.schedule.specs.Code.Kept.{kept}
+use Rattle.schedule.specs.Kept.{kept}
 use Rattle.schedule.proofs.none.Statement.{statement}
 use Rattle.schedule.proofs.none.Tie as tie
 

@@ -2,7 +2,7 @@
 -- Assumes nothing.
 use borrow.Author.Needs.{needs}
 use Rattle.cells.proofs.Tests.{tests}
-use Rattle.supplement_writer.specs.Code.Write.{column}
+use Rattle.supplement_writer.specs.Print.{column}
 use Rattle.supplement_writer.proofs.column.Statement.{statement}
 use Rattle.supplement_writer.proofs.column.Tie as tie
 

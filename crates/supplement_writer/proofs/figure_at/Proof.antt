@@ -2,7 +2,7 @@
 -- Assumes nothing.
 use mathlib.Core.Path.{_≡_, _∙_}
 use borrow.Author.Needs.{needs}
-use Rattle.supplement_writer.specs.Code.Write.{figureAt}
+use Rattle.supplement_writer.specs.Print.{figureAt}
 use Rattle.supplement_writer.proofs.Numbers.{figure-more, figure-last}
 use Rattle.supplement_writer.proofs.figure_at.Statement.{statement}
 use Rattle.supplement_writer.proofs.figure_at.Tie as tie

@@ -2,7 +2,7 @@
 -- Assumes nothing.
 use borrow.Author.Needs.{needs}
 use Rattle.cells.proofs.Tests.{tests}
-use Rattle.supplement_writer.specs.Code.Write.{raw}
+use Rattle.supplement_writer.specs.Print.{raw}
 use Rattle.supplement_writer.proofs.raw.Statement.{statement}
 use Rattle.supplement_writer.proofs.raw.Tie as tie
 

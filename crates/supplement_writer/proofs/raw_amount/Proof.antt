@@ -2,7 +2,7 @@
 -- Assumes nothing.
 use mathlib.Core.Path.{_∙_}
 use mathlib.Core.List.{[], _∷_}
-use Rattle.supplement_writer.specs.Code.Write.{whole, column}
+use Rattle.supplement_writer.specs.Print.{whole, column}
 use borrow.Author.Needs.{needs}
 use Rattle.supplement_writer.proofs.raw_amount.Statement.{statement}
 use Rattle.supplement_writer.proofs.raw_amount.Tie as tie

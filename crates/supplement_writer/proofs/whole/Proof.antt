@@ -2,7 +2,7 @@
 -- Assumes nothing.
 use borrow.Author.Needs.{needs}
 use Rattle.cells.proofs.Tests.{tests}
-use Rattle.supplement_writer.specs.Code.Write.{whole}
+use Rattle.supplement_writer.specs.Print.{whole}
 use Rattle.supplement_writer.proofs.whole.Statement.{statement}
 use Rattle.supplement_writer.proofs.whole.Tie as tie
 

@@ -4,7 +4,7 @@ use Prim.Native.Nat.{_≤_, _+_, _-_}
 use mathlib.Core.Path.{_≡_}
 use native.Mathlib.Omega.{arith}
 use borrow.Author.Needs.{needs}
-use Rattle.supplement_writer.specs.Code.Write.{width}
+use Rattle.supplement_writer.specs.Print.{width}
 use Rattle.supplement_writer.proofs.Numbers.{width-end, width-stop, width-more}
 use Rattle.supplement_writer.proofs.width.Statement.{statement}
 use Rattle.supplement_writer.proofs.width.Tie as tie

@@ -3,7 +3,8 @@
 use mathlib.Core.Path.{_≡_, _∙_, sym, subst}
 use borrow.Author.Needs.{needs}
 use Rattle.supplement.specs.Supplement.{readSupplement}
-use Rattle.supplement_writer.specs.Code.Write.{raw, agrees, answer}
+use Rattle.supplement_writer.specs.Code.Write.{answer}
+use Rattle.supplement_writer.specs.Print.{raw, agrees}
 use Rattle.supplement_writer.specs.Writes.{WritesSupplement}
 use Rattle.supplement_writer.specs.declared.Written.{Written}
 use Rattle.supplement_writer.proofs.Writing.{written}

@@ -1,7 +1,7 @@
 -- `usage_writer::hour_letter` meets its contract: the hour is below 24 or not.
 use borrow.Author.Needs.{needs}
 use Rattle.cells.proofs.Tests.{tests}
-use Rattle.usage_writer.specs.Code.Write.{hourLetter}
+use Rattle.usage_writer.specs.Print.{hourLetter}
 use Rattle.usage_writer.proofs.hour_letter.Statement.{statement}
 use Rattle.usage_writer.proofs.hour_letter.Tie as tie
 

@@ -1,6 +1,6 @@
 -- `usage_writer::mark` meets its contract: the number is 0 or not.
 use Rattle.cells.proofs.Tests.{tests}
-use Rattle.usage_writer.specs.Code.Write.{mark}
+use Rattle.usage_writer.specs.Print.{mark}
 use Rattle.usage_writer.proofs.mark.Statement.{statement}
 use Rattle.usage_writer.proofs.mark.Tie as tie
 

@@ -2,7 +2,7 @@
 use mathlib.Core.List.{_∷_}
 use mathlib.Core.Path.{_≡_, _∙_, ap}
 use borrow.Author.Needs.{needs}
-use Rattle.usage_writer.specs.Code.Write.{tail}
+use Rattle.usage_writer.specs.Print.{tail}
 use Rattle.usage_writer.proofs.Printed.{part, whole}
 use Rattle.usage_writer.proofs.Writing.{twelve}
 use Rattle.usage_writer.proofs.raw.Statement.{statement}

@@ -1,9 +1,9 @@
 -- `usage_writer::tail` meets its contract: the tests of the kind, in their order.
 use mathlib.Core.Path.{_≡_, _∙_}
 use borrow.Author.Needs.{needs}
-use Rattle.cells.specs.Code.Mask.{letter}
+use Rattle.cells.specs.Text.{letter}
 use Rattle.cells.proofs.Tests.{tests}
-use Rattle.usage_writer.specs.Code.Write.{hourLetter, mark, dayTail, loneTail, tail}
+use Rattle.usage_writer.specs.Print.{hourLetter, mark, dayTail, loneTail, tail}
 use Rattle.usage_writer.proofs.tail.Statement.{statement}
 use Rattle.usage_writer.proofs.tail.Tie as tie
 

@@ -1,7 +1,8 @@
 -- `usage_writer::write` meets its contract: what is written is read back and compared, by `Writing.written`.
 use mathlib.Core.Path.{_≡_, _∙_, sym, subst}
 use borrow.Author.Needs.{needs}
-use Rattle.usage_writer.specs.Code.Write.{raw, agrees, answer}
+use Rattle.usage_writer.specs.Code.Write.{agrees, answer}
+use Rattle.usage_writer.specs.Print.{raw}
 use Rattle.usage.specs.Usage.{said, readUsage}
 use Rattle.usage_writer.specs.Writes.{WritesUsage}
 use Rattle.usage_writer.specs.declared.Written.{Written}

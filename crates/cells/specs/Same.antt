@@ -1,11 +1,11 @@
--- The comparison of two records, as the list of their numbers.
+-- "Compared character by character": two codes, or two records as the lists of their numbers.
 -- Assumes nothing.
 use Prim.Native.Nat.{ℕ}
 use mathlib.Core.Bool.{Bool, true, false, _&&_}
 use mathlib.Core.List.{List, [], _∷_}
 use lib.Dec.{eqb}
 
--- two lists of numbers are equal
+-- Two lists have the same numbers in the same places.
 abbrev pub eqs : List ℕ → List ℕ → Bool
 eqs [] [] = true
 eqs [] (y ∷ ys) = false
