@@ -1,4 +1,4 @@
--- Typed or kept, inside the file; nothing is noted of a row that is refused.
+-- Typed or kept, inside the file; nothing is noted of a row that is refused, and the arrays are as they were.
 use Prim.Native.Nat.{ℕ}
 use mathlib.Core.Path.{_≡_, refl, sym, ap, _∙_}
 use mathlib.Core.Bool.{Bool, true, false}
@@ -22,10 +22,10 @@ miscounted-requires c κs = search needs
 
 returns : tie.Need-returns
 returns c =
-    let a = c .before .before .before .before .before .before .args in
+    let a = c .before .before .before .args in
     let j : Supplement → Bool = mayJoin (a .c .month) (a .c .schedule) in
     let w : Row = c .miscounted .result in
-    let m = none-noted (a .n) w (a .at) (fieldsAt (a .s .now) (a .at))
+    let m = none-noted (a .n) w (a .at) (fieldsAt (a .s .now) (a .at)) (a .numbers .now) (a .amounts .now) (a .ends .now)
     (refused-noted (a .n) w (λ z. let y : _≡_ {A = ℕ} 25 0 = ap (λ (x : Row). x .number) (sym (c .miscounted .ensures)) ∙ z in absurd (omega arith))) in (
       c .miscounted .ensures
           ∙ sym
@@ -43,29 +43,31 @@ read-kept-requires c κs = search needs
 
 returns-2 : tie.Need-returns-2
 returns-2 c =
-    let a = c .before .before .before .before .before .before .before .before .args in
+    let a = c .before .before .before .before .before .args in
     let j : Supplement → Bool = mayJoin (a .c .month) (a .c .schedule) in
     let fs : List (List ℕ) = fieldsAt (a .s .now) (a .at) in
     let k : typed (a .n) ≡ false = sym (c .before .before .typed .ensures) ∙ not-true _ (c .before .if2 .taken) in
-    let m = none-noted (a .n) (c .read-kept .result) (a .at) fs (kept-noted (a .n) (c .read-kept .result) k) in
+    let m = none-noted (a .n) (c .read-kept .result) (a .at) fs (a .numbers .now) (a .amounts .now) (a .ends .now) (kept-noted (a .n) (c .read-kept .result) k) in
     (c .read-kept .ensures ∙ kept-row j (a .c) (a .n) (a .at) fs k (some (a .s .now) (a .at) (omega arith)), m .0, m .1, m .2)
 
 read-counted-requires : tie.Need-read-counted-requires
-read-counted-requires c κs = (omega arith, sym (c .before .before .before .before .typed .ensures) ∙ not-false _ (c .before .before .before .if2 .left), refl, refl, refl)
+read-counted-requires c κs = (omega arith, sym (c .before .before .before .before .before .before .before .before .before .before .typed .ensures) ∙ not-false _ (c .before .before .before .before .before .before .before .before .before .if2 .left), refl, refl, refl)
 
 returns-3 : tie.Need-returns-3
 returns-3 c =
     let a = c .before .before .before .before .before .before .before .before .before .before .before .before .before .before .before .before .args in
-    let r = c .before .before .before .before .before .read-counted in
-    let m = none-noted (a .n) (r .result) (a .at) (fieldsAt (a .s .now) (a .at)) (refused-noted (a .n) (r .result) (c .before .before .before .if3 .taken)) in
+    let r = c .before .before .read-counted in
+    let m = none-noted (a .n) (r .result) (a .at) (fieldsAt (a .s .now) (a .at)) (a .numbers .now) (a .amounts .now) (a .ends .now)
+    (refused-noted (a .n) (r .result) (c .if3 .taken)) in
     (r .ensures .0, m .0, m .1, m .2)
 
 returns-4 : tie.Need-returns-4
 returns-4 c =
-    let a = c .before .before .before .before .before .before .before .before .before .before .before .before .before .args in
+    let a = c .before .before .before .before .before .before .before .before .before .before .before .before .before .before .before .before .args in
     let r = c .before .before .read-counted in
-    let k : typed (a .n) ≡ true = sym (c .before .before .before .before .before .before .before .typed .ensures) ∙ not-false _ (c .before .before .before .before .before .before .if2 .left) in
-    let m = all-noted (a .n) (r .result) (a .at) (fieldsAt (a .s .now) (a .at)) (right-noted (a .n) (r .result) k (c .if3 .left)) in
+    let k : typed (a .n) ≡ true = sym (c .before .before .before .before .before .before .before .before .before .before .before .before .before .typed .ensures) ∙ not-false _ (c .before .before .before .before .before .before .before .before .before .before .before .before .if2 .left) in
+    let m = all-noted (a .n) (r .result) (a .at) (fieldsAt (a .s .now) (a .at)) (a .numbers .now) (a .amounts .now) (a .ends .now)
+    (right-noted (a .n) (r .result) k (c .if3 .left)) in
     let q = r .ensures .1 (c .if3 .left) in
     (r .ensures .0, q .0 ∙ m .0, q .1 ∙ m .1, q .2 ∙ m .2)
 
