@@ -38,7 +38,7 @@ in-range lo hi f e = leb-true (value 0 f) hi (and-right (leb lo (value 0 f)) _ (
 pub number-in : (lo hi : ℕ) (f : List ℕ) → numberIn (readNumber lo hi f) ≤ hi
 unfolding readNumber
 number-in lo hi f =
-    chosen (λ (m : Number). numberIn m ≤ hi) (shortest f && (leb lo (value 0 f) && leb (value 0 f) hi)) (in-range lo hi f) (λ e. zero-le)
+    chosen (λ (m : Answer ℕ). numberIn m ≤ hi) (shortest f && (leb lo (value 0 f) && leb (value 0 f) hi)) (in-range lo hi f) (λ e. zero-le)
 
 -- so is the number of a field that passes a rule of numbers, and that of an empty one is 0.
 pub number-most : (joins : Supplement → Bool) (c : Sofar) (need form lo hi : ℕ) →
