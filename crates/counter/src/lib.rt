@@ -38,18 +38,18 @@ impl RpNumber {
 
 impl DrugSerial {
     // Is it the serial of the drug after this one?
-    pub fn next_drug(self, next: DrugSerial) -> bool
-        ensures { λ r. ⌜ r ≡ nextDrug self next ⌝ }
+    pub fn next_drug(self, drug: DrugSerial) -> bool
+        ensures { λ r. ⌜ r ≡ nextDrug self drug ⌝ }
     {
-        one_more(self.0, next.0)
+        one_more(self.0, drug.0)
     }
 }
 
 impl SupplementSerial {
     // Is it the serial of the supplement after this one?
-    pub fn next_supplement(self, next: SupplementSerial) -> bool
-        ensures { λ r. ⌜ r ≡ nextSupplement self next ⌝ }
+    pub fn next_supplement(self, supplement: SupplementSerial) -> bool
+        ensures { λ r. ⌜ r ≡ nextSupplement self supplement ⌝ }
     {
-        one_more(self.0, next.0)
+        one_more(self.0, supplement.0)
     }
 }

@@ -145,10 +145,10 @@ pub fn usage(i: Instruction) -> Piece
 pub fn supplement(x: Supplement) -> Piece
     ensures { λ r. ⌜ r ≡ piece (supplementField x) ⌝ }
 {
-    let w = supplement_writer::write(x);
-    if w.number != 0 {
+    let v = supplement_writer::write(x);
+    if v.number != 0 {
         return nothing();
     }
-    let code = w.code;
+    let code = v.code;
     copied(&code)
 }
