@@ -7,7 +7,7 @@ use mathlib.Core.Path.{_≡_, _∙_}
 use mathlib.Core.List.{List, map}
 use lib.ListN.{length}
 use Rattle.cells.specs.Test.{took, refused}
-use Rattle.line.proofs.Laws.{Place}
+use Rattle.line.specs.Frame.{Place}
 use Rattle.days_writer.specs.Set.{said, WritesSet}
 use Rattle.days_writer.specs.declared.Wrote.{Wrote}
 use Rattle.record.specs.declared.Record.{Record}

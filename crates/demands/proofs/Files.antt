@@ -31,12 +31,11 @@ use Rattle.record.specs.declared.Record.{Record}
 use Rattle.record.specs.declared.Answer.{Answer}
 use Rattle.record.specs.declared.Answer.the-variants.{Took, Refused}
 use Rattle.reader.specs.Open.{fileFault}
-use Rattle.reader.specs.File.{File, whole, before, on, readLines, readFile, numberOf}
+use Rattle.reader.specs.File.{File, whole, taken, before, on, readLines, readFile, numberOf}
 use Rattle.reader.proofs.Laws.{sheet}
 use Rattle.reader.proofs.Lines.{opens}
 use Rattle.reader.proofs.Order.{its-number, leaves-number}
 use Rattle.held.proofs.File.{never-whole}
-use Rattle.held.proofs.Laws.{taken}
 use Rattle.writer.proofs.Laws.{not-long, lines-read}
 use Rattle.demands.specs.Taken.{Passes, fieldTests, FieldsPass, RightFields, fieldsIn, RightLine, RightLines, TakenFile}
 use Rattle.demands.proofs.Codes.{All, none-at-fault, all-passed}

@@ -15,9 +15,8 @@ use Rattle.days_writer.specs.Code.Print.{printed}
 use Rattle.days_writer.proofs.Laws.{can-be-written, only-these}
 use Rattle.order.proofs.Bools.{clash, not-is}
 use Rattle.record.specs.declared.Record.{Record}
-use Rattle.reader.specs.File.{readFile}
+use Rattle.reader.specs.File.{taken, readFile}
 use Rattle.held.specs.Held.{held}
-use Rattle.held.proofs.Laws.{taken}
 use Rattle.held.proofs.Laws as files
 use Rattle.demands.specs.Blank.{blank, daysNoted}
 use Rattle.demands.proofs.Walk.{of-file}

@@ -20,15 +20,12 @@ use Rattle.days.specs.Run.{takes, readRun}
 use Rattle.days_writer.specs.Set.{said, WritesSet}
 use Rattle.days_writer.specs.declared.Wrote.{Wrote}
 use Rattle.record.specs.declared.Record.{Record}
-use Rattle.reader.specs.File.{File, whole, readFile}
+use Rattle.reader.specs.File.{File, whole, taken, readFile}
 use Rattle.reader.specs.Reader.{openFile, call, told}
 use Rattle.reader.proofs.Laws.{calls}
 use Rattle.held.specs.Held.{printFile}
-use Rattle.held.proofs.Laws.{taken}
 use Rattle.writer.specs.Writer.{Left}
-use Rattle.writer.specs.Files.{Item, writeFile}
-use Rattle.writer.proofs.WriteBack.{item}
-use Rattle.writer.proofs.ReadBack.{heldIn, writtenIn}
+use Rattle.writer.specs.Files.{Item, item, heldIn, writeFile, writtenIn, Holds}
 use Rattle.writer.proofs.Laws as writer
 use Rattle.demands.specs.Taken.{TakenUsage, TakenSupplement, TakenRun, TakenFile}
 use Rattle.demands.proofs.Codes as codes
@@ -72,11 +69,15 @@ pub run-written-back : (issue : ℕ) (s cells before after : List ℕ) (w : Wrot
     length s ≤ length before → (said w ≡ took (length s / 8)) × (after ≡ s ++ drop (length s) before)
 run-written-back = back.run-written-back
 
--- and a file, each record put with the file lent beside it, into a buffer with room for it; the rest of the buffer stays.
+-- and a file, each record put with the file lent beside it, into a buffer with room for it: the place after closing is the file's length, and the rest of
+-- the buffer stays.
 pub file-written-back : (s : List ℕ) (rs : List Record) (out : List ℕ) → readFile s ≡ taken rs → length s ≤ length out →
-    (writeFile out (map (item s) rs) .put .number ≡ 0) × (writeFile out (map (item s) rs) .buffer ≡ s ++ drop (length s) out)
+    (writeFile out (map (item s) rs) .put .number ≡ 0) ×
+    (writeFile out (map (item s) rs) .put .state .at ≡ length s) ×
+    (writeFile out (map (item s) rs) .buffer ≡ s ++ drop (length s) out)
 file-written-back s rs out h l =
-    let e = writer.write-back s rs out h l in (ap (λ (w : Left). w .put .number) e, ap (λ (w : Left). w .buffer) e)
+    let e = writer.write-back s rs out h l in
+    (ap (λ (w : Left). w .put .number) e, ap (λ (w : Left). w .put .state .at) e, ap (λ (w : Left). w .buffer) e)
 
 -- ---- "Read what was written: the same records."
 -- A usage code,
@@ -97,5 +98,5 @@ pub file-written : (out : List ℕ) (xs : List Item) → writeFile out xs .put .
 file-written = writer.written-file
 
 -- and read again it is taken, and its records hold what was put.
-pub file-read-back : (out : List ℕ) (xs : List Item) → writeFile out xs .put .number ≡ 0 → writer.Holds (writtenIn (writeFile out xs)) xs
+pub file-read-back : (out : List ℕ) (xs : List Item) → writeFile out xs .put .number ≡ 0 → Holds (writtenIn (writeFile out xs)) xs
 file-read-back = writer.read-back

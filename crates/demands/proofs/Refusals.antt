@@ -12,9 +12,9 @@ use lib.ListN.{length, getD, drop, length-drop}
 use Rattle.cells.specs.Test.{Answer as Reading, took, refused, first, fault}
 use Rattle.cells.proofs.Split.{split as cases}
 use Rattle.cells.proofs.Alike.{and-left, and-right}
-use Rattle.line.specs.Frame.{plainLine, plainLines, file}
+use Rattle.line.specs.Frame.{plainLine, plainLines, file, Place}
 use Rattle.line.specs.Fields.{split, join}
-use Rattle.line.proofs.Laws.{Place, frame-cases}
+use Rattle.line.proofs.Laws.{frame-cases}
 use Rattle.usage.specs.Usage.{readUsage}
 use Rattle.usage.specs.declared.Instruction.{Instruction}
 use Rattle.supplement.specs.Supplement.{readSupplement}

@@ -31,10 +31,9 @@ use Rattle.record.specs.declared.Answer.{Answer}
 use Rattle.record.specs.declared.Answer.the-variants.{Took, Refused}
 use Rattle.record_line.proofs.Leaves.{Keeps, leaves}
 use Rattle.reader.specs.Open.{fileFault}
-use Rattle.reader.specs.File.{File, whole, linesOf, on, readLines, readFile}
+use Rattle.reader.specs.File.{File, whole, taken, linesOf, on, readLines, readFile}
 use Rattle.held.specs.Held.{Value, none, number, amount, text, day, usage, supplement, Held, optional, usageValue, supplementValue, held}
 use Rattle.held.proofs.File.{never-whole}
-use Rattle.held.proofs.Laws.{taken}
 use Rattle.demands.specs.Blank.{dateIn, datesIn, beginsRp, datesUpto}
 use Rattle.demands.proofs.Dates.{Reads, reads-append, onlyDates, Noted, InRp, noted}
 use Rattle.demands.proofs.Steps.{no-header, after-51, after-101, Stood, stood}

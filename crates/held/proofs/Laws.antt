@@ -18,17 +18,13 @@ use Rattle.record_line.specs.Line.{readParts}
 use Rattle.record.specs.declared.Record.{Record}
 use Rattle.record.specs.declared.Answer.the-variants.{Took}
 use Rattle.reader.specs.Open.{fileFault}
-use Rattle.reader.specs.File.{File, whole, readLines, readFile}
+use Rattle.reader.specs.File.{File, whole, taken, readLines, readFile}
 use Rattle.reader.proofs.Lines.{opens}
 use Rattle.held.specs.Held.{held, lentHeld, parts, printRecord, printFile}
 use Rattle.held.proofs.Plain as plain
 use Rattle.held.proofs.Record as records
 use Rattle.held.proofs.Again as again-laws
 use Rattle.held.proofs.File.{never-whole, lines-back}
-
--- A file that is taken whole, with its records.
-abbrev pub taken : List Record → File
-taken rs = record { records = rs; ending = whole }
 
 -- A record that is taken from the parts of a line, which stand in the file where it begins, is written as these parts with commas between them.
 pub record-back : (joins : Supplement → Bool) (c : Sofar) (s : List ℕ) (at : ℕ) (ps : List (List ℕ)) (rest : List ℕ) (r : Record) →

@@ -15,23 +15,13 @@ use lib.Seq.{slice, take-take, take-at, take-nil, drop-drop, length-take-le}
 use Rattle.cells.specs.Test.{fault}
 use Rattle.cells.specs.declared.Fault.{Fault}
 use Rattle.cells.proofs.Split.{split as cases}
-use Rattle.line.specs.Frame.{plain, plainLine, WellFramed, read, wrong, inLine, next, frameFrom, frameFault}
+use Rattle.line.specs.Frame.{plain, plainLine, WellFramed, Place, read, wrong, inLine, next, frameFrom, frameFault}
 use Rattle.line.specs.Fields.{push, split, join, noCommas, line, field, fieldEnd}
 use Rattle.line.proofs.Steps.{field-end, field-past}
 use Rattle.line.proofs.Fields.{field-most, field-part, others, first-field, others-comma, others-none, and-parts, join-of-split, split-of-join}
 use Rattle.line.proofs.Frame.{run, run-append, run-wrong, framed-run, run-framed, done, run-done, run-most, Stop, no-fault, by-run}
 
 -- ---- the frame
--- "First byte where no well framed file agrees, or the end": some well framed file has the first k bytes, and none those and
--- the byte after them; or they are all, and no well framed file.
-pub record Place (s : List ℕ) (k : ℕ) : Type 0 where
-  pub within : k ≤ length s
-  pub other : List ℕ
-  pub framed : WellFramed other
-  pub agrees : take k other ≡ take k s
-  pub none : k < length s → (w : List ℕ) → WellFramed w → take (k + 1) w ≡ take (k + 1) s → ⊥
-  pub short : k ≡ length s → WellFramed s → ⊥
-
 unread : (w : List ℕ) (j : ℕ) → run 0 (take j w) ≡ wrong → WellFramed w → ⊥
 unread w j h f =
     let e : run 0 w ≡ run (run 0 (take j w)) (drop j w) =

@@ -1,11 +1,11 @@
 -- Document 01, "The file": lines, each ended by CR LF, then one byte 1Ah.
 -- Assumes nothing.
-use Prim.Native.Nat.{ℕ, _+_, _≤_}
+use Prim.Native.Nat.{ℕ, _+_, _≤_, _<_}
 use mathlib.Core.Path.{_≡_}
 use mathlib.Core.Bool.{Bool, true, cond, not, _&&_}
 use mathlib.Core.List.{List, [], _∷_, _++_}
 use lib.Dec.{leb, eqb}
-use lib.ListN.{length}
+use lib.ListN.{length, take}
 use Rattle.cells.specs.Test.{fault}
 use Rattle.cells.specs.declared.Fault.{Fault}
 
@@ -35,6 +35,16 @@ pub record WellFramed (s : List ℕ) : Type 0 where
   pub plain : plainLines lines ≡ true
   pub bytes : s ≡ file lines
 
+-- "21: first byte where no well framed file agrees, or the end": some well framed file has the first k bytes, and none those and
+-- the byte after them; or they are all, and no well framed file.
+pub record Place (s : List ℕ) (k : ℕ) : Type 0 where
+  pub within : k ≤ length s
+  pub other : List ℕ
+  pub framed : WellFramed other
+  pub agrees : take k other ≡ take k s
+  pub none : k < length s → (w : List ℕ) → WellFramed w → take (k + 1) w ≡ take (k + 1) s → ⊥
+  pub short : k ≡ length s → WellFramed s → ⊥
+
 -- What has been read of a file: 0 is a part of a line, or nothing; 1 ends with the CR of a line; 2 with its LF; 3 is all of a file,
 abbrev pub read : ℕ
 read = 3
@@ -53,7 +63,7 @@ next state b =
     cond (eqb state 0) (inLine b)
     (cond (eqb state 1) (cond (eqb b 0x0a) 2 wrong) (cond (eqb state 2) (cond (eqb b 0x1a) read (inLine b)) wrong))
 
--- "21: first byte where no well framed file agrees, or the end; offset." From offset k on.
+-- The first byte of what no well framed file begins with, or the end. From offset k on.
 unfoldable pub frameFrom : ℕ → ℕ → List ℕ → Fault
 frameFrom state k [] = cond (eqb state read) (fault 0 0) (fault 21 k)
 frameFrom state k (b ∷ s) = cond (eqb (next state b) wrong) (fault 21 k) (frameFrom (next state b) (k + 1) s)

@@ -31,6 +31,10 @@ pub record File : Type 0 where
   pub records : List Record
   pub ending : Ending
 
+-- A file that is taken whole, with its records.
+abbrev pub taken : List Record → File
+taken rs = record { records = rs; ending = whole }
+
 -- The lines of a file: CR ends a line, an LF stands after it, and 1Ah ends the file.
 unfoldable pub linesOf : List ℕ → List (List ℕ)
 linesOf [] = []

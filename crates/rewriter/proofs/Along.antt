@@ -20,9 +20,9 @@ use Rattle.reader.proofs.Along.{Tells, by-rest, from-opening}
 use Rattle.reader.proofs.Laws.{moves}
 use Rattle.held.proofs.File.{never-whole}
 use Rattle.writer.specs.Writer.{Left, openBuffer, putRecord, closeBuffer}
-use Rattle.writer.specs.Files.{Item, next, putAll, writeFile}
+use Rattle.writer.specs.Files.{Item, item, next, putAll, writeFile}
 use Rattle.writer.specs.declared.State.{State as Writer}
-use Rattle.writer.proofs.WriteBack.{done, afterAll, item}
+use Rattle.writer.proofs.WriteBack.{done, afterAll}
 use Rattle.writer.proofs.ReadBack.{first-call}
 use Rattle.writer.proofs.Laws.{write-back}
 

@@ -20,15 +20,14 @@ use Rattle.record.specs.Record.{start}
 use Rattle.record.specs.declared.Record.{Record}
 use Rattle.record_line.proofs.Leaves.{Keeps}
 use Rattle.reader.specs.Open.{versionLine, fileFault}
-use Rattle.reader.specs.File.{File, whole, readLines, readFile}
+use Rattle.reader.specs.File.{File, whole, taken, readLines, readFile}
 use Rattle.reader.proofs.Lines.{opens, lines-of}
-use Rattle.held.specs.Held.{held, printFile}
-use Rattle.held.proofs.Laws.{taken}
+use Rattle.held.specs.Held.{printFile}
 use Rattle.held.proofs.File.{never-whole}
 use Rattle.writer.specs.Writer.{Left, putAt, ended, openBuffer}
-use Rattle.writer.specs.Files.{Item, next, putAll, writeFile}
-use Rattle.writer.proofs.WriteBack.{done, afterAll, item, line-put, lines-written}
-use Rattle.writer.proofs.ReadBack.{heldIn, linesFor, writtenIn, put-stands, put-length, PutLine, line-there, first-call, Walk, walk}
+use Rattle.writer.specs.Files.{Item, item, heldIn, next, putAll, writeFile, writtenIn, Holds}
+use Rattle.writer.proofs.WriteBack.{done, afterAll, line-put, lines-written}
+use Rattle.writer.proofs.ReadBack.{linesFor, put-stands, put-length, PutLine, line-there, first-call, Walk, walk}
 
 -- ---- writing back what was read
 -- nothing is kept before the first record
@@ -67,12 +66,6 @@ write-back s rs out h l =
     ∙ ap (λ (qs : List Record). done (length s) true (afterAll start qs) (s ++ drop (length s) out)) e
 
 -- ---- reading what was written
--- A file is taken, and its records hold what was put.
-pub record Holds (s : List ℕ) (xs : List Item) : Type 0 where
-  pub records : List Record
-  pub whole : readFile s ≡ taken records
-  pub same : map (held s) records ≡ map heldIn xs
-
 -- lines after the version line make a file that passes 20, 21 and 22
 no-fault : (ls : List (List ℕ)) → plainLines ls ≡ true → 8 + length (file ls) ≤ 16384 → fileFault (file (bytes "JAHIS5" ∷ ls)) .number ≡ 0
 unfolding fileFault first versionLine bytes file plainLines plainLine plain

@@ -29,20 +29,12 @@ use Rattle.reader.proofs.Lines.{after-line}
 use Rattle.held.specs.Held.{Held, held, lentHeld, parts, printRecord}
 use Rattle.held.proofs.Laws.{plain-parts, split-parts, same-after, same-supplements, again}
 use Rattle.writer.specs.Writer.{Left, state, putAt, room, ended, putLine, putRecord, closeBuffer}
-use Rattle.writer.specs.Files.{Item, next, putAll}
+use Rattle.writer.specs.Files.{Item, heldIn, next, putAll, writtenIn}
 use Rattle.writer.proofs.WriteBack.{done, joins-alike}
-
--- What a record that is put holds.
-abbrev pub heldIn : Item → Held
-heldIn x = lentHeld (x .lent) (x .holds)
 
 -- The lines of what is put.
 abbrev pub linesFor : List Item → List (List ℕ)
 linesFor xs = map printRecord (map heldIn xs)
-
--- The bytes that a writer has written.
-abbrev pub writtenIn : Left → List ℕ
-writtenIn w = take (w .put .state .at) (w .buffer)
 
 -- ---- one call
 -- Bytes put at a place of the buffer stand after those before it.

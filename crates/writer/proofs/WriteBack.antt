@@ -31,7 +31,7 @@ use Rattle.held.specs.Held.{lentHeld, parts, printRecord}
 use Rattle.held.proofs.Laws.{lent-back}
 use Rattle.held.proofs.File.{never-whole}
 use Rattle.writer.specs.Writer.{Left, state, putAt, room, ended, putLine, onAnswer, putRecord, closeBuffer}
-use Rattle.writer.specs.Files.{Item, next, putAll}
+use Rattle.writer.specs.Files.{item, next, putAll}
 
 -- A writer at a place, and the buffer, after a call that was not refused.
 abbrev pub done : ℕ → Bool → Sofar → List ℕ → Left
@@ -41,10 +41,6 @@ done at closed c out = record { put = record { number = 0; own = 0; state = stat
 abbrev pub afterAll : Sofar → List Record → Sofar
 afterAll c [] = c
 afterAll c (r ∷ rs) = afterAll (after c r) rs
-
--- A record with the file that its texts lie in.
-abbrev pub item : List ℕ → Record → Item
-item s r = record { holds = r; lent = s }
 
 -- what is kept decides what the RP's list says
 pub joins-alike : (c : Sofar) (xs : List Supplement) → Keeps c xs → (x : Supplement) → mayJoin (c .month) (c .schedule) x ≡ list (c .month) (xs ++ (x ∷ []))
