@@ -1,29 +1,27 @@
 -- Demand 1. "Every file, code and record handed over gets an answer, and the work ends. A refusal is one of document 01's numbers, with its place, and
 -- changes no byte of a lent buffer. An answer that writes changes only the bytes it says it wrote."
--- `EachCall` has what is said call by call, `Numbers` document 01's table of numbers and places, `Lent` what is said of lent bytes.
+-- `EachCall` has what is said call by call, `Numbers` document 01's table of numbers and places, `Refused` the same of a file from opening on, `Lent` what
+-- is said of lent bytes.
 -- Assumes nothing.
 use Prim.Native.Nat.{ℕ, _*_, _≤_, _<_}
 use mathlib.Core.Path.{_≡_, _∙_}
-use mathlib.Core.List.{List, map}
+use mathlib.Core.List.{List}
 use lib.ListN.{length}
 use Rattle.cells.specs.Test.{took, refused}
-use Rattle.line.specs.Frame.{Place}
 use Rattle.days_writer.specs.Set.{said, WritesSet}
 use Rattle.days_writer.specs.declared.Wrote.{Wrote}
 use Rattle.record.specs.declared.Record.{Record}
 use Rattle.record.specs.declared.Refusal.{Refusal}
-use Rattle.reader.specs.File.{stopped, readFile, numberOf}
+use Rattle.reader.specs.File.{readFile}
 use Rattle.reader.specs.Reader.{openFile, nextRecord, call, endingOf, told}
 use Rattle.reader.specs.declared.State.{State}
 use Rattle.reader.specs.declared.Handed.the-variants.{Record as Hands, Refused as Refuses, End}
 use Rattle.reader.proofs.Laws as reader
 use Rattle.demands.specs.EachCall.{Answered, NumberAndPlace}
-use Rattle.demands.specs.Numbers.{SetNumber, OrderSays}
+use Rattle.demands.specs.Numbers.{SetNumber}
 use Rattle.demands.specs.Lent.{OnlyBetween, Refusing, Call, handed, answer}
 use Rattle.demands.proofs.EachCall as eachCall
 use Rattle.demands.proofs.Runs as runs
-use Rattle.demands.proofs.Refusals as refusals
-use Rattle.demands.proofs.Verdicts as verdicts
 use Rattle.demands.proofs.Calls as calls
 use Rattle.demands.proofs.Writing as writing
 
@@ -62,15 +60,6 @@ ends-again = reader.ever-ended
 -- Call by call: reading a code, a run, a file; making a date; writing a code.
 pub number-and-place : NumberAndPlace
 number-and-place = eachCall.number-and-place
-
--- Of a file 21 is told at the first byte where no well framed file agrees, or at the end,
-pub frame-refused : (s : List ℕ) → openFile s .number ≡ 21 → Place s (openFile s .at)
-frame-refused = refusals.frame-refused
-
--- and 23, 24 and 32 by document 01's verdict on the record numbers.
-pub order-refused : (s : List ℕ) (f : Refusal) → openFile s .number ≡ 0 → readFile s .ending ≡ stopped f →
-    OrderSays s (map numberOf (readFile s .records)) f
-order-refused = verdicts.order-says
 
 -- ---- ", and changes no byte of a lent buffer"
 -- A set of days that is refused: 10, 11 or 33, and the buffer is as it was.

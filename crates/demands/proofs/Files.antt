@@ -49,12 +49,20 @@ module _ (joins : Supplement → Bool) (c : Sofar) where
 
   -- no test has the number 0
   some-number : (r : Rule) (f : List ℕ) → All (λ n p. n ≡ 0 → ⊥) (fieldTests joins c r f)
-  some-number r [] = (λ z. omega arith, tt)
-  some-number r (b ∷ f) = (λ z. omega arith, (λ z. omega arith, (λ z. omega arith, (λ z. omega arith, (λ z. omega arith, (λ z. omega arith, tt))))))
+  some-number r [] = (λ a z. omega arith, λ a. tt)
+  some-number r (b ∷ f) = (
+    λ a z. omega arith,
+    λ a.
+        (λ a z. omega arith, λ a. (λ a z. omega arith, λ a. (λ a z. omega arith, λ a. (λ a z. omega arith, λ a. (λ a z. omega arith, λ a. tt))))),
+  )
 
   field-passes : (r : Rule) (f : List ℕ) → wrong joins c r f ≡ 0 → Passes (fieldTests joins c r f)
   unfolding wrong
   field-passes r f = none-at-fault (λ n p. n ≡ 0 → ⊥) (λ n p h. h) (fieldTests joins c r f) (some-number r f)
+
+  -- a field that is read has passed them
+  pub field-right : (r : Rule) (f : List ℕ) → readField joins c r f .number ≡ 0 → Passes (fieldTests joins c r f)
+  field-right r f h = field-passes r f (sym (same-number r f) ∙ h)
 
   not-wrong : (r : Rule) (f : List ℕ) → Passes (fieldTests joins c r f) → wrong joins c r f ≡ 0
   unfolding wrong
@@ -66,7 +74,7 @@ module _ (joins : Supplement → Bool) (c : Sofar) where
   fields-pass k (r ∷ rs) [] row h = tt
   fields-pass k (r ∷ rs) (f ∷ fs) row h =
       cases (eqb (readField joins c r f .number) 0)
-      (λ a. (field-passes r f (sym (same-number r f) ∙ eqb-true _ _ a), fields-pass (k + 1) rs fs row (simp a at h)))
+      (λ a. (field-right r f (eqb-true _ _ a), fields-pass (k + 1) rs fs row (simp a at h)))
       (λ a. absurd (eqb-false _ _ a (simp a at h)))
 
   all-pass : (k : ℕ) (rs : List Rule) (fs : List (List ℕ)) (row : Row) → FieldsPass joins c rs fs → fieldByField joins c k rs fs row ≡ row

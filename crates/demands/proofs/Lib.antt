@@ -6,10 +6,11 @@ pub mod OneFile
 pub mod Answered
 pub mod Codes
 pub mod Runs
+pub mod Made
 pub mod Calls
 pub mod Refusals
 pub mod EachCall
-pub mod Verdicts
+pub mod Refused
 pub mod Writing
 -- demand 2,
 pub mod TakenRuns

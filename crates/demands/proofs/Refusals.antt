@@ -1,28 +1,25 @@
--- What a file that is refused is told: the number and the place of each refusal, from a field up to the file.
+-- What a line that is refused is told: the number and the place of each refusal, from a field up to the line, and in any state of the reader.
 -- Assumes nothing.
-use Prim.Native.Nat.{ℕ, _+_, _≤_, _<_}
-use mathlib.Core.Path.{_≡_, refl, _∙_, ap, subst}
-use mathlib.Core.Bool.{Bool, true, cond}
-use mathlib.Core.List.{List, [], _∷_, _++_}
+use Prim.Native.Nat.{ℕ, suc, _+_, _-_, _≤_, _<_}
+use mathlib.Core.Path.{_≡_, refl, _∙_, sym, ap, subst}
+use mathlib.Core.Bool.{Bool, true, false, cond}
+use mathlib.Core.List.{List, [], _∷_}
 use mathlib.Core.Logic.{inl, inr}
 use native.Mathlib.Omega.{arith}
-use borrow.Author.Tests.{eqb-true, eqb-false, leb-false, eq-eqb}
+use borrow.Author.Tests.{eqb-true, eqb-false, eq-eqb}
 use lib.Dec.{eqb, leb, ltb}
 use lib.ListN.{length, getD, drop, length-drop}
+use lib.Seq.{getD-drop}
 use Rattle.cells.specs.Test.{Answer as Reading, took, refused, first, fault}
 use Rattle.cells.proofs.Split.{split as cases}
-use Rattle.cells.proofs.Alike.{and-left, and-right}
-use Rattle.line.specs.Frame.{plainLine, plainLines, file, Place}
-use Rattle.line.specs.Fields.{split, join}
-use Rattle.line.proofs.Laws.{frame-cases}
+use Rattle.line.specs.Fields.{join}
 use Rattle.usage.specs.Usage.{readUsage}
 use Rattle.usage.specs.declared.Instruction.{Instruction}
 use Rattle.supplement.specs.Supplement.{readSupplement}
 use Rattle.supplement.specs.declared.Supplement.{Supplement}
 use Rattle.order.specs.Order.{among, records}
-use Rattle.order.specs.Next.{may, refusal as orderRefusal, follow, closes}
-use Rattle.schedule.specs.Schedule.{list}
-use Rattle.schedule.specs.Kept.{mayJoin}
+use Rattle.order.specs.Code.Next.{may, refusal as orderRefusal, follow, closes}
+use Rattle.schedule.specs.Code.Kept.{mayJoin}
 use Rattle.field.specs.Field.{present, fits, valued, ordered, numberOf, faultIn, codeFault, listed, wrong, right, refusedWith, readField}
 use Rattle.field.specs.declared.Rule.{Rule}
 use Rattle.field.specs.declared.Sofar.{Sofar}
@@ -30,40 +27,43 @@ use Rattle.field.specs.declared.Field.{Field}
 use Rattle.row.specs.Table.{rules, counted}
 use Rattle.row.specs.Row.{fieldsAt, fine, fieldByField, readRow}
 use Rattle.row.specs.declared.Row.{Row}
-use Rattle.record.specs.Record.{start, after, supplements}
 use Rattle.record_line.specs.Line.{refusal, rowRefusal, recordNumber, readParts, lineAfter, lineAt}
-use Rattle.record.specs.declared.Record.{Record}
 use Rattle.record.specs.declared.Refusal.{Refusal}
 use Rattle.record.specs.declared.Answer.{Answer}
 use Rattle.record.specs.declared.Answer.the-variants.{Took, Refused}
-use Rattle.reader.specs.Open.{versionLine, fileFault}
-use Rattle.reader.specs.File.{File, stopped, on, closing, readLines, readFile}
-use Rattle.reader.specs.Reader.{openFile, endAt, nextRecord, on as upon}
+use Rattle.reader.specs.Reader.{endAt, nextRecord, on as upon}
 use Rattle.reader.specs.declared.State.{State}
 use Rattle.reader.specs.declared.Handed.the-variants.{Refused as Refuses}
-use Rattle.reader.proofs.Lines.{opens, inside, line-fields, after-line}
 use Rattle.entry.proofs.Bridge.{by-refused}
-use Rattle.demands.specs.Numbers.{CodeNumber, RecordNumber, unknown, hopeless, missing, FieldNumber, need, text, value, order, atField, FileRefusal, tooLong, frame, version}
+use Rattle.demands.specs.Numbers.{CodeNumber, RecordNumber, unknown, hopeless, missing, FieldNumber, need, text, value, order, atField, LineRefusal}
 use Rattle.demands.specs.Numbers as numbers
+use Rattle.demands.specs.Refused.{Reaches, here, next, CodeRefused, usage, supplement}
 use Rattle.demands.proofs.Codes.{usage-refused, supplement-refused}
+use Rattle.demands.proofs.Files.{field-right}
 
 -- ---- a field
-usage-own : (a : Reading Instruction) (f : List ℕ) → readUsage f ≡ a → (faultIn a .number ≡ 0 → ⊥) → CodeNumber (faultIn a .number) (faultIn a .place)
-usage-own (took i) f e z = absurd (z refl)
-usage-own (refused n p) f e z = inl (usage-refused f n p e)
-
-supplement-own : (a : Reading Supplement) (f : List ℕ) → readSupplement f ≡ a → (faultIn a .number ≡ 0 → ⊥) →
-    CodeNumber (faultIn a .number) (faultIn a .place)
-supplement-own (took x) f e z = absurd (z refl)
-supplement-own (refused n p) f e z = inr (supplement-refused f n p e)
-
 -- a code's own number and place
-own : (r : Rule) (f : List ℕ) → (codeFault r f .number ≡ 0 → ⊥) → CodeNumber (codeFault r f .number) (codeFault r f .place)
+usage-own : (r : Rule) (f : List ℕ) → r .form ≡ 4 → (a : Reading Instruction) → readUsage f ≡ a → (faultIn a .number ≡ 0 → ⊥) →
+    CodeRefused r f (faultIn a .number) (faultIn a .place)
+usage-own r f k (took i) e z = absurd (z refl)
+usage-own r f k (refused n p) e z = usage k e
+
+supplement-own : (r : Rule) (f : List ℕ) → r .form ≡ 5 → (a : Reading Supplement) → readSupplement f ≡ a → (faultIn a .number ≡ 0 → ⊥) →
+    CodeRefused r f (faultIn a .number) (faultIn a .place)
+supplement-own r f k (took x) e z = absurd (z refl)
+supplement-own r f k (refused n p) e z = supplement k e
+
+own : (r : Rule) (f : List ℕ) → (codeFault r f .number ≡ 0 → ⊥) → CodeRefused r f (codeFault r f .number) (codeFault r f .place)
 unfolding codeFault
 own r f z =
-    cases (eqb (r .form) 4) (λ a. simp a (usage-own (readUsage f) f refl (simp a at z)))
-    (λ a. cases (eqb (r .form) 5) (λ b. simp (a, b) (supplement-own (readSupplement f) f refl (simp (a, b) at z)))
+    cases (eqb (r .form) 4) (λ a. simp a (usage-own r f (eqb-true _ _ a) (readUsage f) refl (simp a at z)))
+    (λ a. cases (eqb (r .form) 5) (λ b. simp (a, b) (supplement-own r f (eqb-true _ _ b) (readSupplement f) refl (simp (a, b) at z)))
     (λ b. absurd (simp (a, b) at z refl)))
+
+-- it is one of document 01's
+own-number : (r : Rule) (f : List ℕ) (n p : ℕ) → CodeRefused r f n p → CodeNumber f n p
+own-number r f n p (usage k e) = inl (usage-refused f n p e)
+own-number r f n p (supplement k e) = inr (supplement-refused f n p e)
 
 module _ (joins : Supplement → Bool) (c : Sofar) where
   -- what is wrong with a field
@@ -85,11 +85,12 @@ module _ (joins : Supplement → Bool) (c : Sofar) where
       (λ a. simp (a, wrong) (n 28 need))
 
   -- a refused field, with a code's own number and place
-  module _ (P : ℕ → ℕ → ℕ → Type 0) (r : Rule) (f : List ℕ) (n : (m : ℕ) → FieldNumber m → P m 0 0) (k : (m p : ℕ) → CodeNumber m p → P 29 m p) where
+  module _ (P : ℕ → ℕ → ℕ → Type 0) (r : Rule) (f : List ℕ) (n : (m : ℕ) → FieldNumber m → wrong joins c r f ≡ m → P m 0 0)
+      (k : (m p : ℕ) → wrong joins c r f ≡ 29 → CodeRefused r f m p → P 29 m p) where
     abbrev told : ℕ → Field
     told w = cond (eqb w 0) (right r f) (refusedWith w (cond (eqb w 29) (codeFault r f) (fault 0 0)))
 
-    of-field : (w : ℕ) → FieldNumber w → P (told w .number) (told w .code) (told w .place)
+    of-field : (w : ℕ) → FieldNumber w → wrong joins c r f ≡ w → P (told w .number) (told w .code) (told w .place)
     of-field w need = n 28 need
     of-field w text = n 26 text
     of-field w value = n 27 value
@@ -98,32 +99,54 @@ module _ (joins : Supplement → Bool) (c : Sofar) where
 
     by-field : (readField joins c r f .number ≡ 0 → ⊥) → P (readField joins c r f .number) (readField joins c r f .code) (readField joins c r f .place)
     unfolding readField
-    by-field =
-        by-wrong {P = λ w. (told w .number ≡ 0 → ⊥) → P (told w .number) (told w .code) (told w .place)} r f (λ z. absurd (z refl))
-        (λ w h z. of-field w h) (λ o z. k _ _ (own r f o))
+    by-field z =
+        by-wrong {P = λ w. wrong joins c r f ≡ w → (told w .number ≡ 0 → ⊥) → P (told w .number) (told w .code) (told w .place)} r f
+        (λ e y. absurd (y refl)) (λ w h e y. of-field w h e) (λ o e y. k _ _ e (own r f o)) refl z
 
   -- ---- a line
-  module _ (P : Refusal → Type 0) (at most : ℕ) (n : (m k : ℕ) → FieldNumber m → 1 ≤ k → k ≤ most → P (atField m at k 0 0))
-      (o : (m p k : ℕ) → CodeNumber m p → 1 ≤ k → k ≤ most → P (atField 29 at k m p)) where
-    -- the first wrong field, from the kth on
-    by-fields : (k : ℕ) (rs : List Rule) (fs : List (List ℕ)) (row : Row) → 1 ≤ k → k + length fs ≤ most + 1 → row .number ≡ 0 →
-        (fieldByField joins c k rs fs row .number ≡ 0 → ⊥) → P (rowRefusal at (fieldByField joins c k rs fs row))
+  module _ (P : Refusal → Type 0) (at : ℕ) (all : List Rule) (fields : List (List ℕ))
+      (n : (m k : ℕ) (r : Rule) (f : List ℕ) → Reaches joins c 1 all fields k r f → FieldNumber m → wrong joins c r f ≡ m → P (atField m at k 0 0))
+      (o : (m p k : ℕ) (r : Rule) (f : List ℕ) → Reaches joins c 1 all fields k r f → wrong joins c r f ≡ 29 → CodeRefused r f m p → P (atField 29 at k m p)) where
+    -- the first wrong field, from the jth on
+    by-fields : (j : ℕ) (rs : List Rule) (fs : List (List ℕ)) (row : Row) →
+        ((k : ℕ) (r : Rule) (f : List ℕ) → Reaches joins c j rs fs k r f → Reaches joins c 1 all fields k r f) → row .number ≡ 0 →
+        (fieldByField joins c j rs fs row .number ≡ 0 → ⊥) → P (rowRefusal at (fieldByField joins c j rs fs row))
     unfolding fieldByField
-    by-fields k [] fs row l h e z = absurd (z e)
-    by-fields k (r ∷ rs) [] row l h e z = absurd (z e)
-    by-fields k (r ∷ rs) (f ∷ fs) row l h e z =
+    by-fields j [] fs row up e z = absurd (z e)
+    by-fields j (r ∷ rs) [] row up e z = absurd (z e)
+    by-fields j (r ∷ rs) (f ∷ fs) row up e z =
         cases (eqb (readField joins c r f .number) 0)
-        (λ a. simp a (by-fields (k + 1) rs fs row (omega arith) (omega arith) e (simp a at z)))
         (λ a. simp a
-        (by-field (λ m own place. P (atField m at k own place)) r f (λ m b. n m k b l (omega arith)) (λ m p b. o m p k b l (omega arith)) (eqb-false _ _ a)))
+        (by-fields (j + 1) rs fs row (λ k q g h. up k q g (next (field-right joins c r f (eqb-true _ _ a)) h)) e (simp a at z)))
+        (λ a. simp a
+        (by-field (λ m own place. P (atField m at j own place)) r f (λ m b w. n m j r f (up j r f here) b w) (λ m p w b. o m p j r f (up j r f here) w b)
+        (eqb-false _ _ a)))
 
-    -- the number of fields, then field by field
-    pub by-row : (m from : ℕ) (fs : List (List ℕ)) → length fs ≤ most → P (refusal 25 at) → (readRow joins c m from fs .number ≡ 0 → ⊥) →
-        P (rowRefusal at (readRow joins c m from fs))
-    unfolding readRow
-    by-row m from fs l h z =
-        cases (counted m fs) (λ a. simp a (by-fields 1 (rules m fs) fs (fine _) (omega arith) (omega arith) refl (simp a at z)))
-        (λ a. simp a h)
+-- A line that is refused: at its record, by its number after the last one or by how many fields it has; at one of its fields, or at a code in one.
+module _ (P : Refusal → Type 0) (joins : Supplement → Bool) (c : Sofar) (at : ℕ) (parts : List (List ℕ))
+    (order : (follow (c .last) (recordNumber parts) ≡ 0 → ⊥) → P (refusal (follow (c .last) (recordNumber parts)) at))
+    (number : follow (c .last) (recordNumber parts) ≡ 0 → counted (recordNumber parts) (drop 1 parts) ≡ false → P (refusal 25 at))
+    (field : (n k : ℕ) (r : Rule) (f : List ℕ) → follow (c .last) (recordNumber parts) ≡ 0 → counted (recordNumber parts) (drop 1 parts) ≡ true →
+    Reaches joins c 1 (rules (recordNumber parts) (drop 1 parts)) (drop 1 parts) k r f → FieldNumber n → wrong joins c r f ≡ n → P (atField n at k 0 0))
+    (code : (n p k : ℕ) (r : Rule) (f : List ℕ) → follow (c .last) (recordNumber parts) ≡ 0 → counted (recordNumber parts) (drop 1 parts) ≡ true →
+    Reaches joins c 1 (rules (recordNumber parts) (drop 1 parts)) (drop 1 parts) k r f → wrong joins c r f ≡ 29 → CodeRefused r f n p →
+    P (atField 29 at k n p)) where
+  -- the number of fields, then field by field
+  by-row : (from : ℕ) → follow (c .last) (recordNumber parts) ≡ 0 → (readRow joins c (recordNumber parts) from (drop 1 parts) .number ≡ 0 → ⊥) →
+      P (rowRefusal at (readRow joins c (recordNumber parts) from (drop 1 parts)))
+  unfolding readRow
+  by-row from y z =
+      cases (counted (recordNumber parts) (drop 1 parts))
+      (λ a. simp a
+      (by-fields joins c P at (rules (recordNumber parts) (drop 1 parts)) (drop 1 parts) (λ m k r f h b w. field m k r f y a h b w)
+      (λ m p k r f h w b. code m p k r f y a h w b) 1 (rules (recordNumber parts) (drop 1 parts)) (drop 1 parts) (fine _) (λ k r f h. h) refl (simp a at z)))
+      (λ a. simp a (number y a))
+
+  pub by-parts : (f : Refusal) → readParts joins c at parts ≡ Refused f → P f
+  unfolding readParts
+  by-parts f h =
+      by-refused joins c at (recordNumber parts) (at + length (getD parts 0 []) + 1) (drop 1 parts) f h (λ z e. subst P e (order z))
+      (λ y z e. subst P e (by-row _ y z))
 
 -- what a record number is told after the last one
 by-order : (q n : ℕ) → (follow q n ≡ 0 → ⊥) → RecordNumber (follow q n)
@@ -135,92 +158,33 @@ by-order q n z =
     (λ d. cases (ltb q n) (λ e. simp (a, b, d, e) missing) (λ e. simp (a, b, d, e) hopeless))))
     (λ a. simp a unknown)
 
--- A line that is refused: at its record, at one of its fields, or at a code in one.
-pub by-parts : (P : Refusal → Type 0) (joins : Supplement → Bool) (c : Sofar) (at : ℕ) (parts : List (List ℕ)) →
-    ((n : ℕ) → RecordNumber n → P (refusal n at)) →
-    ((n k : ℕ) → FieldNumber n → 1 ≤ k → k < length parts → P (atField n at k 0 0)) →
-    ((n p k : ℕ) → CodeNumber n p → 1 ≤ k → k < length parts → P (atField 29 at k n p)) →
-    (f : Refusal) → readParts joins c at parts ≡ Refused f → P f
-unfolding readParts
-by-parts P joins c at parts g n o f h =
-    by-refused joins c at (recordNumber parts) (at + length (getD parts 0 []) + 1) (drop 1 parts) f h
-    (λ z e. subst P e (g (follow (c .last) (recordNumber parts)) (by-order (c .last) (recordNumber parts) z)))
-    (λ y z e. subst P e
-    (by-row joins c P at (length (drop 1 parts)) (λ w j d l u. n w j d l (omega (arith, length-drop 1 parts)))
-    (λ w p j d l u. o w p j d l (omega (arith, length-drop 1 parts))) (recordNumber parts) _ (drop 1 parts) (omega arith) (g 25 numbers.RecordNumber.count) z))
+-- The numbers alone.
+pub by-number : (P : ℕ → Type 0) (joins : Supplement → Bool) (c : Sofar) (at : ℕ) (parts : List (List ℕ)) →
+    ((n : ℕ) → RecordNumber n → P n) → ((n : ℕ) → FieldNumber n → P n) → P 29 → (f : Refusal) → readParts joins c at parts ≡ Refused f → P (f .number)
+by-number P joins c at parts g n o =
+    by-parts (λ f. P (f .number)) joins c at parts (λ z. g _ (by-order (c .last) (recordNumber parts) z)) (λ y a. g 25 numbers.RecordNumber.count)
+    (λ m k r f y a h b w. n m b) (λ m p k r f y a h w b. o)
 
--- ---- the lines of a file
+-- ---- a call in any state
+-- a field that is reached is one of the line's
+reached : (joins : Supplement → Bool) (c : Sofar) (j : ℕ) (rs : List Rule) (fs : List (List ℕ)) (k : ℕ) (r : Rule) (f : List ℕ) → Reaches joins c j rs fs k r f →
+    (j ≤ k) × (k < j + length fs) × (getD fs (k - j) [] ≡ f)
+reached joins c j rs fs k r f (here {fs = gs}) = let z : j - j ≡ 0 = omega arith in (omega arith, omega arith, rw z)
+reached joins c j rs fs k r f (next {rs = qs} {fs = gs} p h) =
+    let u = reached joins c (j + 1) qs gs k r f h in
+    let z : k - j ≡ suc (k - (j + 1)) = omega arith in
+    (omega arith, omega arith, rw z (u .2))
+
+in-line : (joins : Supplement → Bool) (c : Sofar) (parts : List (List ℕ)) (rs : List Rule) (k : ℕ) (r : Rule) (f : List ℕ) →
+    Reaches joins c 1 rs (drop 1 parts) k r f → (1 ≤ k) × (k < length parts) × (getD parts k [] ≡ f)
+in-line joins c parts rs k r f h =
+    let u = reached joins c 1 rs (drop 1 parts) k r f h in
+    let z : 1 + (k - 1) ≡ k = omega arith in
+    (u .0, omega (arith, length-drop 1 parts), ap (λ (i : ℕ). getD parts i []) (sym z) ∙ sym (getD-drop 1 parts (k - 1) []) ∙ u .2)
+
 module _ (s : List ℕ) where
-  -- where they end
-  by-end : (at : ℕ) (c : Sofar) (f : Refusal) → drop at s ≡ file [] → closing at c .ending ≡ stopped f → FileRefusal s f
-  unfolding file
-  by-end at c f e h =
-      let m : at < length s = omega (arith, length-drop at s, ap length e) in
-      cases (closes (c .last)) (λ a. absurd (let k = simp a at h in let z : _≡_ {A = ℕ} 0 1 = cc in omega arith))
-      (λ a.
-      let k : stopped (refusal 32 at) ≡ stopped f = simp a at h in
-      let d : refusal 32 at ≡ f = cc in
-      subst (FileRefusal s) d (numbers.FileRefusal.ofRecord missing m))
-
-  -- one line, and those after it
-  by-line : (joins : Supplement → Bool) (c : Sofar) (at : ℕ) (l : List ℕ) (ls : List (List ℕ)) (rest : Record → File) (f : Refusal) →
-      drop at s ≡ file (l ∷ ls) → plainLine l ≡ true → ((r : Record) → rest r .ending ≡ stopped f → FileRefusal s f) →
-      (a : Answer) → readParts joins c at (split l) ≡ a → on a rest .ending ≡ stopped f → FileRefusal s f
-  unfolding file
-  by-line joins c at l ls rest f e p more (Took r) h w = more r w
-  by-line joins c at l ls rest f e p more (Refused g) h w =
-      let d : g ≡ f = cc in
-      let m : at < length s = inside s at l (0x0a ∷ file ls) e in
-      let q : fieldsAt s at ≡ split l = line-fields s at l (0x0a ∷ file ls) e p in
-      let u : length (fieldsAt s at) ≡ length (split l) = ap length q in
-      by-parts (FileRefusal s) joins c at (split l) (λ n b. numbers.FileRefusal.ofRecord b m)
-      (λ n k b j i. numbers.FileRefusal.ofField b m j (omega arith)) (λ n y k b j i. numbers.FileRefusal.ofCode b m j (omega arith)) f
-      (h ∙ ap Refused d)
-
-  by-lines : (ls : List (List ℕ)) (at : ℕ) (c : Sofar) (xs : List Supplement) (f : Refusal) → drop at s ≡ file ls → plainLines ls ≡ true →
-      readLines at c xs ls .ending ≡ stopped f → FileRefusal s f
-  unfolding readLines plainLines
-  by-lines [] at c xs f e p h = by-end at c f e h
-  by-lines (l ∷ ls) at c xs f e p h =
-      let joins : Supplement → Bool = λ x. list (c .month) (xs ++ (x ∷ [])) in
-      by-line joins c at l ls (λ r. readLines (at + length l + 2) (after c r) (supplements xs r) ls) f e (and-left (plainLine l) _ p)
-      (λ r w. by-lines ls (at + length l + 2) (after c r) (supplements xs r) f (after-line s at l ls e) (and-right (plainLine l) _ p) w)
-      (readParts joins c at (split l)) refl h
-
-  -- the tests of the whole file
-  by-fault : (fileFault s .number ≡ 0 → ⊥) → FileRefusal s (refusal (fileFault s .number) (fileFault s .place))
-  unfolding fileFault first
-  by-fault z =
-      cases (leb (length s) 16384)
-      (λ a. frame-cases s
-      (λ w e. cases (versionLine s) (λ b. absurd (simp (a, b, e) at z refl)) (λ b. simp (a, b, e) version))
-      (λ k p e. simp (a, e) (frame (p .within))))
-      (λ a. simp a (tooLong (leb-false _ _ a)))
-
-  -- A file that is refused is told one of the table's numbers, with its place.
-  pub file-refused : (f : Refusal) → readFile s .ending ≡ stopped f → FileRefusal s f
-  unfolding readFile
-  file-refused f h =
-      cases (eqb (fileFault s .number) 0)
-      (λ a. let o = opens s (eqb-true _ _ a) in by-lines (o .rest) 8 start [] f (o .from8) (o .plain) (simp (a, o .lines) at h))
-      (λ a.
-      let k : stopped (refusal (fileFault s .number) (fileFault s .place)) ≡ stopped f = simp a at h in
-      let d : refusal (fileFault s .number) (fileFault s .place) ≡ f = cc in
-      subst (FileRefusal s) d (by-fault (eqb-false _ _ a)))
-
-  -- "First byte where no well framed file agrees, or the end": that is where 21 is told.
-  pub frame-refused : openFile s .number ≡ 21 → Place s (openFile s .at)
-  unfolding openFile fileFault first
-  frame-refused h =
-      cases (leb (length s) 16384)
-      (λ a. frame-cases s
-      (λ w e. cases (versionLine s) (λ b. absurd (let z : _≡_ {A = ℕ} 0 21 = simp (a, b, e) at h in omega arith))
-      (λ b. absurd (let z : _≡_ {A = ℕ} 22 21 = simp (a, b, e) at h in omega arith)))
-      (λ k p e. simp (a, e) p))
-      (λ a. absurd (let z : _≡_ {A = ℕ} 20 21 = simp a at h in omega arith))
-
-  -- A reader in any state inside the file that has not been refused is told one of them, too.
-  pub call-refused : (t : State) (f : Refusal) → t .number ≡ 0 → t .at < length s → nextRecord s t .next ≡ Refuses f → FileRefusal s f
+  -- A reader in any state inside the file that has not been refused is told one of the table's numbers, at the line there.
+  pub call-refused : (t : State) (f : Refusal) → t .number ≡ 0 → t .at < length s → nextRecord s t .next ≡ Refuses f → LineRefusal s (t .at) f
   unfolding nextRecord lineAt
   call-refused t f z l h =
       cases (endAt s (t .at))
@@ -228,7 +192,7 @@ module _ (s : List ℕ) where
       (λ b.
       let k : Refuses (refusal 32 (t .at)) ≡ Refuses f = simp (eq-eqb _ _ z, a, b) at h in
       let d : refusal 32 (t .at) ≡ f = cc in
-      subst (FileRefusal s) d (numbers.FileRefusal.ofRecord missing l)))
+      subst (LineRefusal s (t .at)) d (numbers.LineRefusal.ofRecord missing)))
       (λ a. by (readParts joins (t .sofar) (t .at) (fieldsAt s (t .at))) refl (simp (eq-eqb _ _ z, a) at h))
     where
       joins : Supplement → Bool
@@ -237,10 +201,14 @@ module _ (s : List ℕ) where
       n : ℕ
       n = t .at + length (join (fieldsAt s (t .at))) + 2
 
-      by : (a : Answer) → readParts joins (t .sofar) (t .at) (fieldsAt s (t .at)) ≡ a → upon t (lineAfter (t .sofar) a n .answer) (lineAfter (t .sofar) a n .next) .next ≡ Refuses f →
-          FileRefusal s f
+      by : (a : Answer) → readParts joins (t .sofar) (t .at) (fieldsAt s (t .at)) ≡ a →
+          upon t (lineAfter (t .sofar) a n .answer) (lineAfter (t .sofar) a n .next) .next ≡ Refuses f → LineRefusal s (t .at) f
       by (Took r) e k = absurd (let y : _≡_ {A = ℕ} 0 1 = cc in omega arith)
       by (Refused g) e k =
           let d : g ≡ f = cc in
-          by-parts (FileRefusal s) joins (t .sofar) (t .at) (fieldsAt s (t .at)) (λ m b. numbers.FileRefusal.ofRecord b l)
-          (λ m j b i o. numbers.FileRefusal.ofField b l i o) (λ m p j b i o. numbers.FileRefusal.ofCode b l i o) f (e ∙ ap Refused d)
+          by-parts (LineRefusal s (t .at)) joins (t .sofar) (t .at) (fieldsAt s (t .at))
+          (λ z. numbers.LineRefusal.ofRecord (by-order (t .sofar .last) (recordNumber (fieldsAt s (t .at))) z))
+          (λ y a. numbers.LineRefusal.ofRecord numbers.RecordNumber.count)
+          (λ m j r g y a u b w. let v = in-line joins (t .sofar) (fieldsAt s (t .at)) _ j r g u in numbers.LineRefusal.ofField (v .0) (v .1) b)
+          (λ m p j r g y a u w b. let v = in-line joins (t .sofar) (fieldsAt s (t .at)) _ j r g u in
+          numbers.LineRefusal.ofCode (v .0) (v .1) (subst (λ (x : List ℕ). CodeNumber x m p) (sym (v .2)) (own-number r g m p b))) f (e ∙ ap Refused d)

@@ -1,14 +1,14 @@
 -- Runs of date codes and sets of days: what a refusal tells, and what a set that is written leaves of the lent bytes.
 -- Assumes nothing.
-use Prim.Native.Nat.{ℕ, zero, suc, _+_, _*_, _/_, _%_, _≤_}
+use Prim.Native.Nat.{ℕ, zero, suc, _+_, _-_, _*_, _/_, _%_, _≤_}
 use mathlib.Core.Path.{_≡_, refl, _∙_, sym, ap, subst}
 use mathlib.Core.Bool.{true, _&&_}
 use mathlib.Core.List.{List, [], _∷_, _++_, map}
-use native.Mathlib.Nat.{div-add-mod'}
+use native.Mathlib.Nat.{zero-add, add-zero, div-add-mod'}
 use native.Mathlib.Omega.{arith}
 use borrow.Author.Tests.{eqb-true, eqb-false, leb-true, leb-false}
 use lib.Dec.{eqb, leb}
-use lib.ListN.{length, drop, length-append, length-drop}
+use lib.ListN.{length, getD, drop, length-append, length-drop}
 use lib.Seq.{drop-at}
 use Rattle.cells.specs.Test.{Answer, took, refused}
 use Rattle.cells.proofs.Split.{split}
@@ -18,51 +18,54 @@ use Rattle.days.specs.Run.{Code, codeOf, allowed, eights, stop, takes, aMonth, 
 use Rattle.days.specs.declared.Run.{Run}
 use Rattle.days_writer.specs.Set.{writable, said, WritesSet}
 use Rattle.days_writer.specs.declared.Wrote.{Wrote}
-use Rattle.demands.specs.Numbers.{RunNumber, notWhole, empty, noRun, own, SetNumber, cannot, room}
+use Rattle.demands.specs.Numbers.{codeIn, RunNumber, notWhole, empty, noRun, own, SetNumber, cannot, room}
 use Rattle.demands.specs.Numbers as numbers
 use Rattle.demands.specs.Lent.{OnlyBetween}
 use Rattle.demands.proofs.Codes.{supplement-refused}
 
 -- ---- a run
--- what is told of what stops it
-abbrev Tells : ℕ → ℕ → List Code → ℕ → List (Answer Supplement) → Type 0
-Tells most issue seen k cs =
-    (stop issue seen k cs .number ≡ 0 → ⊥) → RunNumber most (stop issue seen k cs .number) (stop issue seen k cs .place) (stop issue seen k cs .code)
-
-module _ (most issue : ℕ) where
-  one-code : (c : List ℕ) (a : Answer Supplement) → readSupplement c ≡ a → (seen : List Code) (k : ℕ) (more : List (Answer Supplement)) → 1 ≤ k → k ≤ most →
-      ((now : List Code) → Tells most issue now (k + 1) more) → Tells most issue seen k (a ∷ more)
-  unfolding stop
-  one-code c (refused n p) e seen k more l h next z = own (supplement-refused c n p e) l h
-  one-code c (took x) e seen k more l h next z =
-      split (eqb (x .letter) 68 && allowed issue (seen ++ (codeOf x ∷ []))) (λ a. simp a (next (seen ++ (codeOf x ∷ [])) (simp a at z)))
-      (λ a. simp a (noRun l h))
-
-  by-codes : (cs : List (List ℕ)) (seen : List Code) (k : ℕ) → 1 ≤ k → k + length cs ≤ most + 1 → Tells most issue seen k (map readSupplement cs)
-  unfolding stop
-  by-codes [] seen k l h = λ z. absurd (z refl)
-  by-codes (c ∷ cs) seen k l h =
-      one-code c (readSupplement c) refl seen k (map readSupplement cs) l (omega arith) (λ now. by-codes cs now (k + 1) (omega arith) (omega arith))
-
 -- there are as many codes as are asked for
 pub count-eights : (n : ℕ) (s : List ℕ) → length (eights n s) ≡ n
 unfolding eights
 count-eights zero s = refl
 count-eights (suc n) s = ap suc (count-eights n (drop 8 s))
 
--- A run that is refused is told one of the table's numbers, with its place and, for a code's own, the code's number.
-pub run-refused : (issue : ℕ) (s : List ℕ) → (readRun issue s .number ≡ 0 → ⊥) →
-    RunNumber (length s / 8) (readRun issue s .number) (readRun issue s .place) (readRun issue s .code)
-unfolding readRun
-run-refused issue s z =
-    split (aMonth issue)
-    (λ a. split (eqb (length s % 8) 0)
-    (λ b. split (eqb (length s) 0) (λ d. simp (a, b, d) empty)
-    (λ d. split (eqb (stop issue [] 1 (answersIn s) .number) 0) (λ e. absurd (simp (a, b, d, e) at z refl))
-    (λ e. simp (a, b, d, e)
-    (by-codes (length s / 8) issue (eights (length s / 8) s) [] 1 (omega arith) (omega (arith, count-eights (length s / 8) s)) (eqb-false _ _ e)))))
-    (λ b. simp (a, b) notWhole))
-    (λ a. simp a numbers.RunNumber.month)
+module _ (issue : ℕ) (s : List ℕ) where
+  -- what is told of what stops it
+  abbrev Tells : List Code → ℕ → List (Answer Supplement) → Type 0
+  Tells seen k cs =
+      (stop issue seen k cs .number ≡ 0 → ⊥) → RunNumber issue s (stop issue seen k cs .number) (stop issue seen k cs .place) (stop issue seen k cs .code)
+
+  one-code : (c : List ℕ) (a : Answer Supplement) → readSupplement c ≡ a → (seen : List Code) (k : ℕ) (more : List (Answer Supplement)) → 1 ≤ k →
+      k ≤ length s / 8 → codeIn s k ≡ c → ((now : List Code) → Tells now (k + 1) more) → Tells seen k (a ∷ more)
+  unfolding stop
+  one-code c (refused n p) e seen k more l h i next z = own l h (supplement-refused (codeIn s k) n p (ap readSupplement i ∙ e))
+  one-code c (took x) e seen k more l h i next z =
+      split (eqb (x .letter) 68 && allowed issue (seen ++ (codeOf x ∷ []))) (λ a. simp a (next (seen ++ (codeOf x ∷ [])) (simp a at z)))
+      (λ a. simp a (noRun l h))
+
+  -- the codes from the kth on
+  by-codes : (cs : List (List ℕ)) (seen : List Code) (k : ℕ) → 1 ≤ k → k + length cs ≤ length s / 8 + 1 →
+      ((j : ℕ) → getD (eights (length s / 8) s) (k - 1 + j) [] ≡ getD cs j []) → Tells seen k (map readSupplement cs)
+  unfolding stop
+  by-codes [] seen k l h i = λ z. absurd (z refl)
+  by-codes (c ∷ cs) seen k l h i =
+      one-code c (readSupplement c) refl seen k (map readSupplement cs) l (omega arith) (rw add-zero at (i 0))
+      (λ now. by-codes cs now (k + 1) (omega arith) (omega arith)
+      (λ j. let m : k + 1 - 1 + j ≡ k - 1 + suc j = omega arith in rw m (i (suc j))))
+
+  -- A run that is refused is told one of the table's numbers, with its place and, for a code's own, the code's number.
+  pub run-refused : (readRun issue s .number ≡ 0 → ⊥) → RunNumber issue s (readRun issue s .number) (readRun issue s .place) (readRun issue s .code)
+  unfolding readRun
+  run-refused z =
+      split (aMonth issue)
+      (λ a. split (eqb (length s % 8) 0)
+      (λ b. split (eqb (length s) 0) (λ d. simp (a, b, d) (empty (eqb-true _ _ d)))
+      (λ d. split (eqb (stop issue [] 1 (answersIn s) .number) 0) (λ e. absurd (simp (a, b, d, e) at z refl))
+      (λ e. simp (a, b, d, e)
+      (by-codes (eights (length s / 8) s) [] 1 (omega arith) (omega (arith, count-eights (length s / 8) s)) (λ j. rw zero-add) (eqb-false _ _ e)))))
+      (λ b. simp (a, b) (notWhole (eqb-false _ _ b))))
+      (λ a. simp a (numbers.RunNumber.month a))
 
 -- ---- a set
 -- a run that is taken has an issue month and is whole codes

@@ -51,7 +51,7 @@ module _ (issue : ℕ) where
       ((now : List Code) → stop issue now (k + 1) more .number ≡ 0 → (1 ≤ length now → allowed issue now ≡ true) → Dates now more) →
       stop issue seen k (a ∷ more) .number ≡ 0 → Dates seen (a ∷ more)
   unfolding stop dates
-  one-more c (refused n p) e seen k more next h = absurd (supplement-some n p (supplement-refused c n p e) h)
+  one-more c (refused n p) e seen k more next h = absurd (supplement-some c n p (supplement-refused c n p e) h)
   one-more c (took x) e seen k more next h =
       split (eqb (x .letter) 68 && allowed issue (seen ++ (codeOf x ∷ [])))
       (λ a.

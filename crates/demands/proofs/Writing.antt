@@ -23,10 +23,10 @@ use Rattle.held.specs.Held.{lentHeld, parts, printRecord}
 use Rattle.writer.specs.Writer.{Left, refuses, putAt, room, ended, putLine, unopened, openBuffer, onAnswer, putRecord, closeBuffer}
 use Rattle.writer.specs.declared.State.{State}
 use Rattle.writer.proofs.ReadBack.{put-length}
-use Rattle.demands.specs.Numbers.{hopeless, missing, WriterNumber, ofCode}
+use Rattle.demands.specs.Numbers.{hopeless, missing, WriterNumber}
 use Rattle.demands.specs.Numbers as numbers
 use Rattle.demands.specs.Lent.{OnlyBetween, Answers, Call, opening, putting, closing, handed, answer}
-use Rattle.demands.proofs.Refusals.{by-parts}
+use Rattle.demands.proofs.Refusals.{by-number}
 
 -- bytes put at a place
 put-only : (out l : List ℕ) (at to : ℕ) → at + length l ≡ to → to ≤ length out → OnlyBetween at to out (putAt out at l)
@@ -82,8 +82,8 @@ module _ (out : List ℕ) (t : State) where
       own : (f : Refusal) → readParts (mayJoin (t .sofar .month) (t .sofar .schedule)) (t .sofar) (t .at) (parts (lentHeld lent r)) ≡ Refused f →
           WriterNumber 34 (f .number)
       own =
-          by-parts (λ f. WriterNumber 34 (f .number)) (mayJoin (t .sofar .month) (t .sofar .schedule)) (t .sofar) (t .at) (parts (lentHeld lent r))
-          (λ n b. numbers.WriterNumber.ofRecord b) (λ n k b i j. numbers.WriterNumber.ofField b) (λ n p k b i j. ofCode)
+          by-number (WriterNumber 34) (mayJoin (t .sofar .month) (t .sofar .schedule)) (t .sofar) (t .at) (parts (lentHeld lent r))
+          (λ n b. numbers.WriterNumber.ofRecord b) (λ n b. numbers.WriterNumber.ofField b) numbers.WriterNumber.ofCode
 
       by : (a : Answer) → readParts (mayJoin (t .sofar .month) (t .sofar .schedule)) (t .sofar) (t .at) (parts (lentHeld lent r)) ≡ a →
           Answers out t (onAnswer out t a (printRecord (lentHeld lent r)) (after (t .sofar) r))

@@ -1,9 +1,10 @@
 -- Demand 1, call by call: that writing has one answer, and which of document 01's numbers a refusal tells. `Numbers` has the table of numbers
 -- and places.
 -- Assumes nothing.
-use Prim.Native.Nat.{ℕ, _/_, _<_}
+use Prim.Native.Nat.{ℕ, _<_}
 use mathlib.Core.Path.{_≡_}
 use mathlib.Core.List.{List}
+use mathlib.Core.Logic.{_↔_}
 use lib.ListN.{length}
 use Rattle.cells.specs.Test.{took, refused}
 use Rattle.usage.specs.Usage.{readUsage}
@@ -17,13 +18,15 @@ use Rattle.supplement_writer.specs.declared.Written.{Written as WrittenSuppleme
 use Rattle.days.specs.Run.{readRun}
 use Rattle.days_writer.specs.Set.{WritesSet}
 use Rattle.days_writer.specs.declared.Wrote.{Wrote}
-use Rattle.date.specs.declared.Made.{Made}
+use Rattle.date.specs.Date.{readDate, makeWestern, makeEra, makeDate}
 use Rattle.record.specs.declared.Refusal.{Refusal}
+use Rattle.reader.specs.File.{readFile}
 use Rattle.reader.specs.Reader.{openFile, nextRecord, call}
 use Rattle.reader.specs.declared.State.{State}
 use Rattle.reader.specs.declared.Handed.the-variants.{Refused as Refuses}
 use Rattle.demands.specs.One.{One}
-use Rattle.demands.specs.Numbers.{UsageNumber, SupplementNumber, RunNumber, saidDate, FileRefusal}
+use Rattle.demands.specs.Numbers.{UsageNumber, SupplementNumber, RunNumber, saidDate, DateNumber, DateTextNumber, LineRefusal}
+use Rattle.demands.specs.Refused.{FileRefusal}
 
 -- "Every file, code and record handed over gets an answer": writing a code or a set of days has one answer that meets its promise, and no other.
 pub record Answered : Type 0 where
@@ -37,18 +40,24 @@ pub record Answered : Type 0 where
 -- "A refusal is one of document 01's numbers, with its place."
 pub record NumberAndPlace : Type 0 where
   -- Reading a usage code,
-  pub usage : (s : List ℕ) (n p : ℕ) → readUsage s ≡ refused n p → UsageNumber n p
+  pub usage : (s : List ℕ) (n p : ℕ) → readUsage s ≡ refused n p → UsageNumber s n p
   -- a supplementary code,
-  pub supplement : (s : List ℕ) (n p : ℕ) → readSupplement s ≡ refused n p → SupplementNumber n p
+  pub supplement : (s : List ℕ) (n p : ℕ) → readSupplement s ≡ refused n p → SupplementNumber s n p
   -- a run of date codes,
   pub run : (issue : ℕ) (s : List ℕ) → (readRun issue s .number ≡ 0 → ⊥) →
-      RunNumber (length s / 8) (readRun issue s .number) (readRun issue s .place) (readRun issue s .code)
-  -- a file: on any call from opening on,
-  pub file : (s : List ℕ) (n : ℕ) (f : Refusal) → call n s (openFile s) ≡ Refuses f → FileRefusal s f
-  -- and in any state inside the file, once opened;
-  pub state : (s : List ℕ) (t : State) (f : Refusal) → t .number ≡ 0 → t .at < length s → nextRecord s t .next ≡ Refuses f → FileRefusal s f
-  -- making a date,
-  pub date : (t : Made) (n p : ℕ) → saidDate t ≡ refused n p → (n ≡ 27) × (p ≡ 0)
+      RunNumber issue s (readRun issue s .number) (readRun issue s .place) (readRun issue s .code)
+  -- a file: on any call from opening on, after the records that were handed out,
+  pub file : (s : List ℕ) (n : ℕ) (f : Refusal) → call n s (openFile s) ≡ Refuses f → FileRefusal s (readFile s .records) f
+  -- and in any state inside the file, once opened, also one that no call gave;
+  pub state : (s : List ℕ) (t : State) (f : Refusal) → t .number ≡ 0 → t .at < length s → nextRecord s t .next ≡ Refuses f → LineRefusal s (t .at) f
+  -- making a date: exactly where there is none, in western style,
+  pub western : (y m d n p : ℕ) → (saidDate (makeWestern y m d) ≡ refused n p) ↔ DateNumber y m d n p
+  -- in era style,
+  pub era : (y m d n p : ℕ) → (saidDate (makeEra y m d) ≡ refused n p) ↔ DateNumber y m d n p
+  -- and with no style named;
+  pub date : (y m d n p : ℕ) → (saidDate (makeDate y m d) ≡ refused n p) ↔ DateNumber y m d n p
+  -- reading one: exactly where no date is written so;
+  pub dateRead : (s : List ℕ) (n p : ℕ) → (saidDate (readDate s) ≡ refused n p) ↔ DateTextNumber s n p
   -- writing a usage code: "35 code record that no code reads as",
   pub usageWritten : (i : Instruction) (w : WrittenUsage) → WritesUsage i w → (w .number ≡ 0 → ⊥) →
       (w .number ≡ 35) × ((s : List ℕ) → readUsage s ≡ took i → ⊥)

@@ -1,6 +1,7 @@
 pub mod One
 pub mod Numbers
+pub mod Taken
+pub mod Refused
 pub mod EachCall
 pub mod Lent
-pub mod Taken
 pub mod Blank

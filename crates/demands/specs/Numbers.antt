@@ -1,67 +1,80 @@
 -- Document 01, "Numbers a caller gets back": which numbers each call answers, each with what stands in the table's column "Place".
 -- Assumes nothing.
-use Prim.Native.Nat.{ℕ, _+_, _≤_, _<_}
+use Prim.Native.Nat.{ℕ, _-_, _/_, _%_, _≤_, _<_}
 use mathlib.Core.Path.{_≡_}
-use mathlib.Core.List.{List, [], _∷_, _++_}
+use mathlib.Core.Bool.{true, false}
+use mathlib.Core.List.{List, []}
 use mathlib.Core.Logic.{_⊎_}
-use lib.ListN.{length}
+use lib.ListN.{length, getD}
+use Rattle.cells.specs.Text.{among, digit}
 use Rattle.cells.specs.Test as test
+use Rattle.cells.specs.Cells.{char}
+use Rattle.usage.specs.Usage.{details, kinds, occasions, fullDay, table8, inTable, pairs, inPairs}
+use Rattle.supplement.specs.Supplement.{lastDay, emptyWeek}
+use Rattle.days.specs.Run.{eights, aMonth}
+use Rattle.date.specs.Date.{exists, isDate}
+use Rattle.date.specs.Print.{printDate}
 use Rattle.date.specs.declared.Date.{Date}
 use Rattle.date.specs.declared.Made.{Made}
 use Rattle.date.specs.declared.Made.the-variants.{Day, None}
-use Rattle.order.specs.Order.{Begins, Sheet, Verdict}
 use Rattle.row.specs.Row.{fieldsAt}
-use Rattle.record_line.specs.Line.{refusal, recordNumber}
+use Rattle.record_line.specs.Line.{refusal}
 use Rattle.record.specs.declared.Refusal.{Refusal}
 
 -- "Characters, codes and fields count from 1 (fields after the record number), offsets from 0."
--- A usage code's number and place: itself is the place of a character after the timing kind.
-pub data UsageNumber : ℕ → ℕ → Type 0 where
+-- A usage code's number and place, by its characters: itself is the place of a character after the timing kind.
+pub data UsageNumber (s : List ℕ) : ℕ → ℕ → Type 0 where
   -- 1 "code not 16 or 8 long": 0
-  notSixteen : UsageNumber 1 0
+  notSixteen : (length s ≡ 16 → ⊥) → UsageNumber s 1 0
   -- 2, 3, 4 "1st character unknown; detail; timing kind": 1, 2, 3
-  class : UsageNumber 2 1
-  detail : UsageNumber 3 2
-  kind : UsageNumber 4 3
+  class : among "12" (char s 1) ≡ false → UsageNumber s 2 1
+  detail : among (details (char s 1)) (char s 2) ≡ false → UsageNumber s 3 2
+  kind : among (kinds (char s 1) (char s 2)) (char s 3) ≡ false → UsageNumber s 4 3
   -- 5 "character outside its set": itself
-  outside : {p : ℕ} → 4 ≤ p → p ≤ 16 → UsageNumber 5 p
+  outside : {p : ℕ} → 4 ≤ p → p ≤ 16 → UsageNumber s 5 p
   -- 6 "unused character not 0": itself
-  unused : {p : ℕ} → 4 ≤ p → p ≤ 16 → UsageNumber 6 p
+  unused : {p : ℕ} → 4 ≤ p → p ≤ 16 → among "0" (char s p) ≡ false → UsageNumber s 6 p
   -- 7 "count differs from occasions": 4
-  count : UsageNumber 7 4
+  count : among "16" (char s 3) ≡ true → (digit (char s 4) ≡ occasions s → ⊥) → UsageNumber s 7 4
   -- 8 "P rule; table row or pair": 10; first of them
-  fifteen : UsageNumber 8 10
-  tableRow : UsageNumber 8 5
-  pair : UsageNumber 8 4
+  fifteen : among "1" (char s 3) ≡ true → among "P" (char s 10) ≡ true → fullDay s ≡ false → UsageNumber s 8 10
+  tableRow : among "5" (char s 3) ≡ true → inTable table8 (char s 5) (char s 6) (char s 7) ≡ false → UsageNumber s 8 5
+  pair : among "7" (char s 3) ≡ true → inPairs pairs (char s 4) (char s 5) ≡ false → UsageNumber s 8 4
   -- 9 "hour or day not rising": itself
-  hour : {p : ℕ} → 4 ≤ p → p ≤ 16 → UsageNumber 9 p
+  hour : {p : ℕ} → among "3" (char s 3) ≡ true → 6 ≤ p → p ≤ 16 → digit (char s p) ≤ digit (char s (p - 1)) → UsageNumber s 9 p
 
--- A supplementary code's number and place: itself is the place of a character after the letter.
-pub data SupplementNumber : ℕ → ℕ → Type 0 where
+-- A supplementary code's number and place, by its characters: itself is the place of a character after the letter.
+pub data SupplementNumber (s : List ℕ) : ℕ → ℕ → Type 0 where
   -- 1 "code not 16 or 8 long": 0
-  notEight : SupplementNumber 1 0
+  notEight : (length s ≡ 8 → ⊥) → SupplementNumber s 1 0
   -- 2 "1st character unknown": 1
-  letter : SupplementNumber 2 1
+  letter : among "IWDCV" (char s 1) ≡ false → SupplementNumber s 2 1
   -- 5 "character outside its set": itself
-  outside : {p : ℕ} → 2 ≤ p → p ≤ 8 → SupplementNumber 5 p
+  outside : {p : ℕ} → 2 ≤ p → p ≤ 8 → SupplementNumber s 5 p
   -- 6 "unused character not 0": itself
-  unused : {p : ℕ} → 2 ≤ p → p ≤ 8 → SupplementNumber 6 p
-  -- 8 "empty week; no such day": 2; itself
-  day : {p : ℕ} → 2 ≤ p → p ≤ 8 → SupplementNumber 8 p
+  unused : {p : ℕ} → 2 ≤ p → p ≤ 8 → among "0" (char s p) ≡ false → SupplementNumber s 6 p
+  -- 8 "empty week": 2
+  week : among "W" (char s 1) ≡ true → emptyWeek s ≡ true → SupplementNumber s 8 2
+  -- 8 "no such day": itself, a day that its month has not
+  day : {p : ℕ} → among "D" (char s 1) ≡ true → 3 ≤ p → p ≤ 8 → lastDay (digit (char s 2)) < digit (char s p) → SupplementNumber s 8 p
   -- 9 "hour or day not rising": itself
-  rising : {p : ℕ} → 2 ≤ p → p ≤ 8 → SupplementNumber 9 p
+  rising : {p : ℕ} → among "D" (char s 1) ≡ true → 4 ≤ p → p ≤ 8 → digit (char s p) ≤ digit (char s (p - 1)) → SupplementNumber s 9 p
 
--- A run of so many codes: number, place, and for a code's own refusal the code's number.
-pub data RunNumber (codes : ℕ) : ℕ → ℕ → ℕ → Type 0 where
+-- The kth code of a run: its eight characters.
+abbrev pub codeIn : List ℕ → ℕ → List ℕ
+codeIn s k = getD (eights (length s / 8) s) (k - 1) []
+
+-- A run for an issue month: number, place, and for a code's own refusal the code's number.
+pub data RunNumber (issue : ℕ) (s : List ℕ) : ℕ → ℕ → ℕ → Type 0 where
   -- 10 "issue month not 1 to 12": 0
-  month : RunNumber codes 10 0 0
+  month : aMonth issue ≡ false → RunNumber issue s 10 0 0
   -- 1 "run not whole codes": 0
-  notWhole : RunNumber codes 1 0 0
+  notWhole : (length s % 8 ≡ 0 → ⊥) → RunNumber issue s 1 0 0
   -- 12 "the codes up to this one begin no allowed run; or run empty (0)": code number
-  empty : RunNumber codes 12 0 0
-  noRun : {k : ℕ} → 1 ≤ k → k ≤ codes → RunNumber codes 12 k 0
+  empty : length s ≡ 0 → RunNumber issue s 12 0 0
+  noRun : {k : ℕ} → 1 ≤ k → k ≤ length s / 8 → RunNumber issue s 12 k 0
   -- "code by code its own refusal (the code number with it)"
-  own : {n p k : ℕ} → SupplementNumber n p → 1 ≤ k → k ≤ codes → RunNumber codes n p k
+  own : {n p k : ℕ} → 1 ≤ k → k ≤ length s / 8 → SupplementNumber (codeIn s k) n p → RunNumber issue s n p k
 
 -- A set of days that is not written: number and place. "Sets: 10, 11, 33."
 pub data SetNumber : ℕ → ℕ → Type 0 where
@@ -76,6 +89,16 @@ pub data SetNumber : ℕ → ℕ → Type 0 where
 abbrev pub saidDate : Made → test.Answer Date
 saidDate (Day t) = test.took t
 saidDate None = test.refused 27 0
+
+-- A year, a month and a day that are no date.
+pub data DateNumber (y m d : ℕ) : ℕ → ℕ → Type 0 where
+  -- 27 "no such day or year", which is one "from 1868 to 2099": 0
+  noDate : (1868 ≤ y → y ≤ 2099 → exists y m d ≡ true → ⊥) → DateNumber y m d 27 0
+
+-- Characters that are no date's.
+pub data DateTextNumber (s : List ℕ) : ℕ → ℕ → Type 0 where
+  -- 27 "number, date, ..", which is written YYYYMMDD or as an era, two-digit year and MMDD: 0
+  noDate : ((t : Date) → isDate t ≡ true → printDate t ≡ s → ⊥) → DateTextNumber s 27 0
 
 -- The numbers of a record,
 pub data RecordNumber : ℕ → Type 0 where
@@ -101,37 +124,22 @@ pub data FieldNumber : ℕ → Type 0 where
   -- 31 "this supplement, with those before it in its RP, begins no allowed list"
   list : FieldNumber 31
 
--- and of a code in a field.
-abbrev pub CodeNumber : ℕ → ℕ → Type 0
-CodeNumber n p = UsageNumber n p ⊎ SupplementNumber n p
+-- and of a code in a field, by its bytes.
+abbrev pub CodeNumber : List ℕ → ℕ → ℕ → Type 0
+CodeNumber f n p = UsageNumber f n p ⊎ SupplementNumber f n p
 
 -- A refusal at a field of the record at an offset, with a code's own number and place.
 abbrev pub atField : ℕ → ℕ → ℕ → ℕ → ℕ → Refusal
 atField number at field code place = record { number = number; at = at; field = field; code = code; place = place }
 
--- The refusals of a file s. "A record's place is the offset of its first byte, at the end that of the 1Ah."
-pub data FileRefusal (s : List ℕ) : Refusal → Type 0 where
-  -- 20 "file too long": 0
-  tooLong : 16384 < length s → FileRefusal s (refusal 20 0)
-  -- 21 "first byte where no well framed file agrees, or the end": offset
-  frame : {at : ℕ} → at ≤ length s → FileRefusal s (refusal 21 at)
-  -- 22 "version line": 0
-  version : FileRefusal s (refusal 22 0)
+-- What a reader tells of the line at an offset of the file s, whatever it is handed for its state: `Refused` says what it tells from opening on.
+pub data LineRefusal (s : List ℕ) (at : ℕ) : Refusal → Type 0 where
   -- 23, 24, 32, 25: record
-  ofRecord : {n at : ℕ} → RecordNumber n → at < length s → FileRefusal s (refusal n at)
+  ofRecord : {n : ℕ} → RecordNumber n → LineRefusal s at (refusal n at)
   -- 28, 26, 27, 30, 31: record, field
-  ofField : {n at k : ℕ} → FieldNumber n → at < length s → 1 ≤ k → k < length (fieldsAt s at) → FileRefusal s (atField n at k 0 0)
+  ofField : {n k : ℕ} → 1 ≤ k → k < length (fieldsAt s at) → FieldNumber n → LineRefusal s at (atField n at k 0 0)
   -- 29 "code refused; its own number and place follow": record, field
-  ofCode : {n p at k : ℕ} → CodeNumber n p → at < length s → 1 ≤ k → k < length (fieldsAt s at) → FileRefusal s (atField 29 at k n p)
-
--- What the order of records says of a file that is refused after its frame, where `before` are the record numbers that it handed out.
-pub data OrderSays (s before : List ℕ) : Refusal → Type 0 where
-  -- 23, 24 or 32, by document 01's verdict on the record number there,
-  refused : {n at : ℕ} → (n ≡ 0 → ⊥) → Verdict before (recordNumber (fieldsAt s at)) n → OrderSays s before (refusal n at)
-  -- 32 at the 1Ah: the records are no sheet;
-  ended : {at : ℕ} → at + 1 ≡ length s → (Sheet before → ⊥) → OrderSays s before (refusal 32 at)
-  -- or the record stands well, and 25 to 31 are of its fields.
-  stands : {f : Refusal} → Begins (before ++ (recordNumber (fieldsAt s (f .at)) ∷ [])) → 25 ≤ f .number → f .number ≤ 31 → OrderSays s before f
+  ofCode : {n p k : ℕ} → 1 ≤ k → k < length (fieldsAt s at) → CodeNumber (getD (fieldsAt s at) k []) n p → LineRefusal s at (atField 29 at k n p)
 
 -- What a writer's refusal tells: its number, and after 34 the reader's own.
 pub data WriterNumber : ℕ → ℕ → Type 0 where
