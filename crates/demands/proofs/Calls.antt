@@ -68,8 +68,8 @@ ending-refused whole f h = absurd (let z : _≡_ {A = ℕ} 0 1 = cc in omega ari
 ending-refused (stopped g) f h = let z : g ≡ f = cc in ap stopped z
 
 -- and a refusal is told only there.
-pub told-refused : (n : ℕ) (rs : List Record) (e : Ending) (f : Refusal) → told n rs e ≡ Refuses f → e ≡ stopped f
+pub told-refused : (n : ℕ) (rs : List Record) (e : Ending) (f : Refusal) → told n rs e ≡ Refuses f → (length rs ≤ n) × (e ≡ stopped f)
 unfolding told
-told-refused n [] e f h = ending-refused e f h
+told-refused n [] e f h = (omega arith, ending-refused e f h)
 told-refused zero (r ∷ rs) e f h = absurd (let z : _≡_ {A = ℕ} 0 1 = cc in omega arith)
-told-refused (suc n) (r ∷ rs) e f h = told-refused n rs e f h
+told-refused (suc n) (r ∷ rs) e f h = let k = told-refused n rs e f h in (omega arith, k .1)

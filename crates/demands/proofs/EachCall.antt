@@ -10,7 +10,7 @@ use Rattle.demands.proofs.Runs.{run-refused}
 use Rattle.demands.proofs.Made as dates
 use Rattle.demands.proofs.Calls.{told-refused}
 use Rattle.demands.proofs.Refusals.{call-refused}
-use Rattle.demands.proofs.Refused.{file-refused}
+use Rattle.demands.proofs.Exactly.{file-exactly}
 
 -- Writing has one answer.
 pub answered : Answered
@@ -23,7 +23,7 @@ number-and-place =
       usage = usage-refused;
       supplement = supplement-refused;
       run = run-refused;
-      file = λ s n f h. file-refused s f (told-refused n (readFile s .records) (readFile s .ending) f (sym (reader.calls s n) ∙ h));
+      file = file-exactly;
       state = call-refused;
       western = dates.western;
       era = dates.era;

@@ -43,7 +43,7 @@ use Rattle.demands.proofs.Codes.{All, none-at-fault, all-passed}
 -- ---- fields
 module _ (joins : Supplement → Bool) (c : Sofar) where
   -- a field's number is what is wrong with it
-  same-number : (r : Rule) (f : List ℕ) → readField joins c r f .number ≡ wrong joins c r f
+  pub same-number : (r : Rule) (f : List ℕ) → readField joins c r f .number ≡ wrong joins c r f
   unfolding readField
   same-number r f = cases (eqb (wrong joins c r f) 0) (λ a. simp a (sym (eqb-true _ _ a))) (λ a. simp a)
 
@@ -64,7 +64,7 @@ module _ (joins : Supplement → Bool) (c : Sofar) where
   pub field-right : (r : Rule) (f : List ℕ) → readField joins c r f .number ≡ 0 → Passes (fieldTests joins c r f)
   field-right r f h = field-passes r f (sym (same-number r f) ∙ h)
 
-  not-wrong : (r : Rule) (f : List ℕ) → Passes (fieldTests joins c r f) → wrong joins c r f ≡ 0
+  pub not-wrong : (r : Rule) (f : List ℕ) → Passes (fieldTests joins c r f) → wrong joins c r f ≡ 0
   unfolding wrong
   not-wrong r f = all-passed (fieldTests joins c r f)
 

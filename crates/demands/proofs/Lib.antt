@@ -11,6 +11,7 @@ pub mod Calls
 pub mod Refusals
 pub mod EachCall
 pub mod Refused
+pub mod Exactly
 pub mod Writing
 -- demand 2,
 pub mod TakenRuns

@@ -59,7 +59,7 @@ module _ (before : List ℕ) (c : Sofar) (xs : List Supplement) (at : ℕ) (l : 
       (λ n k r f y a h i w. field (well-there y) a h i w) (λ n p k r f y a h w i. code (well-there y) a h w i)
 
   -- the record of one that is taken stands well
-  taken-stands : (r : Record) → readParts (mayJoin c xs) c at (split l) ≡ Took r → Begins (before ++ (numberOf r ∷ []))
+  pub taken-stands : (r : Record) → readParts (mayJoin c xs) c at (split l) ≡ Took r → Begins (before ++ (numberOf r ∷ []))
   unfolding readParts
   taken-stands r h =
       let from : ℕ = at + length (getD (split l) 0 []) + 1 in
@@ -69,7 +69,7 @@ module _ (before : List ℕ) (c : Sofar) (xs : List Supplement) (at : ℕ) (l : 
 
 -- ---- lines
 -- where and why lines stop, after records that they have handed out
-data Stops (at : ℕ) (c : Sofar) (xs : List Supplement) (before : List ℕ) (ls : List (List ℕ)) (rs : List Record) : Refusal → Type 0 where
+pub data Stops (at : ℕ) (c : Sofar) (xs : List Supplement) (before : List ℕ) (ls : List (List ℕ)) (rs : List Record) : Refusal → Type 0 where
   atLine : {f : Refusal} → length rs < length ls →
       WrongLine (before ++ map numberOf rs) (leaving c rs) (supplied xs rs) (startAfter at ls (length rs)) (getD ls (length rs) []) f →
       Stops at c xs before ls rs f
@@ -136,7 +136,7 @@ module _ (s : List ℕ) where
       subst (λ (k : ℕ). FileRefusal s rs (refusal 32 k)) p (refused.FileRefusal.end o (omega (arith, ap length e)) (omega arith) w)
 
   -- a file that passes 20, 21 and 22
-  opened : (ls : List (List ℕ)) → fileFault s .number ≡ 0 → plainLines ls ≡ true → s ≡ file (bytes "JAHIS5" ∷ ls) → linesOf s ≡ bytes "JAHIS5" ∷ ls → Opens s
+  pub opened : (ls : List (List ℕ)) → fileFault s .number ≡ 0 → plainLines ls ≡ true → s ≡ file (bytes "JAHIS5" ∷ ls) → linesOf s ≡ bytes "JAHIS5" ∷ ls → Opens s
   unfolding plainLines plainLine plain bytes
   opened ls z p m e =
       record {
@@ -145,12 +145,12 @@ module _ (s : List ℕ) where
         version = ap (λ (x : List (List ℕ)). getD x 0 []) e;
       }
 
-  its-lines : (ls : List (List ℕ)) → plainLines ls ≡ true → s ≡ file (bytes "JAHIS5" ∷ ls) → linesOf s ≡ bytes "JAHIS5" ∷ ls
+  pub its-lines : (ls : List (List ℕ)) → plainLines ls ≡ true → s ≡ file (bytes "JAHIS5" ∷ ls) → linesOf s ≡ bytes "JAHIS5" ∷ ls
   unfolding plainLines plainLine plain bytes
   its-lines ls p m = ap linesOf m ∙ lines-of (bytes "JAHIS5" ∷ ls) p
 
   -- a file whose first line is the version line begins with it
-  its-version : (ls : List (List ℕ)) → 1 ≤ length ls → s ≡ file ls → getD ls 0 [] ≡ bytes "JAHIS5" → versionLine s ≡ true
+  pub its-version : (ls : List (List ℕ)) → 1 ≤ length ls → s ≡ file ls → getD ls 0 [] ≡ bytes "JAHIS5" → versionLine s ≡ true
   unfolding versionLine file bytes
   its-version [] n m e = absurd (omega arith)
   its-version (l ∷ ls) n m e = ap versionLine (m ∙ ap (λ (x : List ℕ). file (x ∷ ls)) e)

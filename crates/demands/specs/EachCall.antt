@@ -1,7 +1,7 @@
 -- Demand 1, call by call: that writing has one answer, and which of document 01's numbers a refusal tells. `Numbers` has the table of numbers
 -- and places.
 -- Assumes nothing.
-use Prim.Native.Nat.{ℕ, _<_}
+use Prim.Native.Nat.{ℕ, _≤_, _<_}
 use mathlib.Core.Path.{_≡_}
 use mathlib.Core.List.{List}
 use mathlib.Core.Logic.{_↔_}
@@ -46,8 +46,9 @@ pub record NumberAndPlace : Type 0 where
   -- a run of date codes,
   pub run : (issue : ℕ) (s : List ℕ) → (readRun issue s .number ≡ 0 → ⊥) →
       RunNumber issue s (readRun issue s .number) (readRun issue s .place) (readRun issue s .code)
-  -- a file: on any call from opening on, after the records that were handed out,
-  pub file : (s : List ℕ) (n : ℕ) (f : Refusal) → call n s (openFile s) ≡ Refuses f → FileRefusal s (readFile s .records) f
+  -- a file: from opening on, the call with n calls before it tells a refusal exactly when the records are handed out and the file is refused so,
+  pub file : (s : List ℕ) (n : ℕ) (f : Refusal) →
+      (call n s (openFile s) ≡ Refuses f) ↔ ((length (readFile s .records) ≤ n) × FileRefusal s (readFile s .records) f)
   -- and in any state inside the file, once opened, also one that no call gave;
   pub state : (s : List ℕ) (t : State) (f : Refusal) → t .number ≡ 0 → t .at < length s → nextRecord s t .next ≡ Refuses f → LineRefusal s (t .at) f
   -- making a date: exactly where there is none, in western style,
