@@ -1,14 +1,10 @@
 -- What demand 1 says call by call, gathered from the laws of each.
 -- Assumes nothing.
-use mathlib.Core.Path.{_∙_, sym}
-use Rattle.reader.specs.File.{readFile}
-use Rattle.reader.proofs.Laws as reader
 use Rattle.demands.specs.EachCall.{Answered, NumberAndPlace}
 use Rattle.demands.proofs.Answered.{usage-answered, supplement-answered, set-answered}
 use Rattle.demands.proofs.Codes.{usage-refused, supplement-refused}
-use Rattle.demands.proofs.Runs.{run-refused}
+use Rattle.demands.proofs.Runs.{run-exactly}
 use Rattle.demands.proofs.Made as dates
-use Rattle.demands.proofs.Calls.{told-refused}
 use Rattle.demands.proofs.Refusals.{call-refused}
 use Rattle.demands.proofs.Exactly.{file-exactly}
 
@@ -22,7 +18,7 @@ number-and-place =
     record {
       usage = usage-refused;
       supplement = supplement-refused;
-      run = run-refused;
+      run = run-exactly;
       file = file-exactly;
       state = call-refused;
       western = dates.western;

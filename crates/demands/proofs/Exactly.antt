@@ -7,13 +7,12 @@ use mathlib.Core.List.{List, [], _∷_, _++_, map, append-assoc, append-nil}
 use mathlib.Core.Logic.{_↔_}
 use native.Mathlib.Omega.{arith}
 use borrow.Author.Tests.{eqb-true, eqb-false, eq-eqb, ne-eqb, le-leb, lt-leb}
-use lib.Dec.{eqb, leb}
-use lib.ListN.{length, getD, drop}
+use lib.Dec.{eqb}
+use lib.ListN.{length, getD}
 use Rattle.cells.specs.Text.{bytes}
 use Rattle.cells.specs.Test.{first, fault}
 use Rattle.cells.specs.declared.Fault.{Fault}
 use Rattle.cells.proofs.Split.{split as cases}
-use Rattle.line.specs.Frame.{file, WellFramed, frameFault}
 use Rattle.line.specs.Fields.{split}
 use Rattle.line.proofs.Laws.{no-place, one-place, frame-cases, framed}
 use Rattle.supplement.specs.declared.Supplement.{Supplement}
@@ -27,10 +26,10 @@ use Rattle.field.specs.declared.Rule.{Rule}
 use Rattle.field.specs.declared.Sofar.{Sofar}
 use Rattle.field.specs.declared.Field.{Field}
 use Rattle.row.specs.Table.{rules, counted}
-use Rattle.row.specs.Row.{refusedAt, fine, fieldByField, readRow}
+use Rattle.row.specs.Row.{refusedAt, fieldByField, readRow}
 use Rattle.row.specs.declared.Row.{Row}
 use Rattle.record.specs.Record.{start, after, supplements}
-use Rattle.record_line.specs.Line.{refusal, rowRefusal, fromRow, readFields, readParts}
+use Rattle.record_line.specs.Line.{refusal, readFields, readParts}
 use Rattle.record.specs.declared.Record.{Record}
 use Rattle.record.specs.declared.Refusal.{Refusal}
 use Rattle.record.specs.declared.Answer.{Answer}
@@ -45,7 +44,7 @@ use Rattle.reader.proofs.Order.{leaves-number}
 use Rattle.demands.specs.Numbers.{FieldNumber, need, text, value, atField}
 use Rattle.demands.specs.Numbers as numbers
 use Rattle.demands.specs.Taken.{fieldsIn}
-use Rattle.demands.specs.Refused.{startAfter, leaving, supplied, mayJoin, Reaches, here, next, CodeRefused, usage, supplement, numberOn, WrongLine, unknown, hopeless, missing, count, field, code, Opens, FileRefusal, tooLong, frame, version}
+use Rattle.demands.specs.Refused.{startAfter, leaving, supplied, mayJoin, Reaches, here, next, CodeRefused, usage, supplement, numberOn, WrongLine, unknown, hopeless, missing, field, code, Opens, FileRefusal, tooLong, frame, version}
 use Rattle.demands.specs.Refused as refused
 use Rattle.demands.proofs.Files.{same-number, not-wrong}
 use Rattle.demands.proofs.Calls.{told-end, told-refused}
@@ -125,11 +124,11 @@ module _ (before : List ℕ) (c : Sofar) (xs : List Supplement) (at : ℕ) (l : 
   line-told f (unknown v) = told-order 23 v (λ z. omega arith)
   line-told f (hopeless v) = told-order 24 v (λ z. omega arith)
   line-told f (missing v) = told-order 32 v (λ z. omega arith)
-  line-told f (count v a) = told-count v a
-  line-told f (field {n = n} {k = k} {r = r} {f = g} v a h i w) =
-      told-field v a k r g h n (fault 0 0) (field-told (mayJoin c xs) c r g n i w) (some-number n i)
-  line-told f (code {n = n} {p = p} {k = k} {r = r} {f = g} v a h w i) =
-      told-field v a k r g h 29 (fault n p) (code-told (mayJoin c xs) c r g n p w i) (λ z. omega arith)
+  line-told f (refused.WrongLine.count v a) = told-count v a
+  line-told f (field {n = n} {k = k} {r = r} {f = g} h i w) =
+      told-field (h .stands) (h .count) k r g (h .reaches) n (fault 0 0) (field-told (mayJoin c xs) c r g n i w) (some-number n i)
+  line-told f (code {n = n} {p = p} {k = k} {r = r} {f = g} h w i) =
+      told-field (h .stands) (h .count) k r g (h .reaches) 29 (fault n p) (code-told (mayJoin c xs) c r g n p w i) (λ z. omega arith)
 
 -- ---- lines
 -- the others, where the first is taken

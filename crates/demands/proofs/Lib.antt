@@ -9,9 +9,9 @@ pub mod Runs
 pub mod Made
 pub mod Calls
 pub mod Refusals
-pub mod EachCall
 pub mod Refused
 pub mod Exactly
+pub mod EachCall
 pub mod Writing
 -- demand 2,
 pub mod TakenRuns

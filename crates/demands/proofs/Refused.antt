@@ -33,7 +33,7 @@ use Rattle.reader.proofs.Lines.{opens, lines-of, after-line}
 use Rattle.reader.proofs.Order.{its-number, leaves-number}
 use Rattle.held.proofs.Taken.{taken}
 use Rattle.writer.proofs.Laws.{not-long}
-use Rattle.demands.specs.Refused.{startAfter, leaving, supplied, mayJoin, numberOn, WrongLine, unknown, hopeless, missing, count, field, code, Opens, FileRefusal, tooLong, frame, version}
+use Rattle.demands.specs.Refused.{startAfter, leaving, supplied, mayJoin, numberOn, WrongLine, unknown, hopeless, missing, field, code, Opens, FileRefusal, tooLong, frame, version}
 use Rattle.demands.specs.Refused as refused
 use Rattle.demands.proofs.Refusals.{by-parts}
 
@@ -55,8 +55,9 @@ module _ (before : List ℕ) (c : Sofar) (xs : List Supplement) (at : ℕ) (l : 
   -- a line that is refused
   line-wrong : (f : Refusal) → readParts (mayJoin c xs) c at (split l) ≡ Refused f → WrongLine before c xs at l f
   line-wrong =
-      by-parts (WrongLine before c xs at l) (mayJoin c xs) c at (split l) (λ z. of-verdict _ verdict z) (λ y a. count (well-there y) a)
-      (λ n k r f y a h i w. field (well-there y) a h i w) (λ n p k r f y a h w i. code (well-there y) a h w i)
+      by-parts (WrongLine before c xs at l) (mayJoin c xs) c at (split l) (λ z. of-verdict _ verdict z) (λ y a. refused.WrongLine.count (well-there y) a)
+      (λ n k r f y a h i w. field (record { stands = well-there y; count = a; reaches = h }) i w)
+      (λ n p k r f y a h w i. code (record { stands = well-there y; count = a; reaches = h }) w i)
 
   -- the record of one that is taken stands well
   pub taken-stands : (r : Record) → readParts (mayJoin c xs) c at (split l) ≡ Took r → Begins (before ++ (numberOf r ∷ []))

@@ -21,12 +21,7 @@ use Rattle.days.proofs.Laws.{beginning}
 use Rattle.schedule.specs.Schedule.{dates}
 use Rattle.demands.specs.Taken.{TakenRun}
 use Rattle.demands.proofs.Codes.{supplement-refused, supplement-some}
-use Rattle.demands.proofs.Runs.{count-eights}
-
--- the letter D
-is-date : (c : ℕ) → among "D" c ≡ eqb c 68
-unfolding among
-is-date c = split (eqb c 68) (λ a. simp a) (λ a. simp a)
+use Rattle.demands.proofs.Runs.{count-eights, is-date}
 
 -- the number of an answer
 abbrev numberIn : Run → ℕ

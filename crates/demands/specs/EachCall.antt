@@ -15,7 +15,7 @@ use Rattle.supplement.specs.Supplement.{readSupplement}
 use Rattle.supplement.specs.declared.Supplement.{Supplement}
 use Rattle.supplement_writer.specs.Writes.{WritesSupplement}
 use Rattle.supplement_writer.specs.declared.Written.{Written as WrittenSupplement}
-use Rattle.days.specs.Run.{readRun}
+use Rattle.days.specs.Run.{stopped, refuses, readRun}
 use Rattle.days_writer.specs.Set.{WritesSet}
 use Rattle.days_writer.specs.declared.Wrote.{Wrote}
 use Rattle.date.specs.Date.{readDate, makeWestern, makeEra, makeDate}
@@ -43,9 +43,8 @@ pub record NumberAndPlace : Type 0 where
   pub usage : (s : List ℕ) (n p : ℕ) → readUsage s ≡ refused n p → UsageNumber s n p
   -- a supplementary code,
   pub supplement : (s : List ℕ) (n p : ℕ) → readSupplement s ≡ refused n p → SupplementNumber s n p
-  -- a run of date codes,
-  pub run : (issue : ℕ) (s : List ℕ) → (readRun issue s .number ≡ 0 → ⊥) →
-      RunNumber issue s (readRun issue s .number) (readRun issue s .place) (readRun issue s .code)
+  -- a run of date codes, exactly so,
+  pub run : (issue : ℕ) (s : List ℕ) (n p k : ℕ) → ((readRun issue s ≡ refuses (stopped n p k)) × (n ≡ 0 → ⊥)) ↔ RunNumber issue s n p k
   -- a file: from opening on, the call with n calls before it tells a refusal exactly when the records are handed out and the file is refused so,
   pub file : (s : List ℕ) (n : ℕ) (f : Refusal) →
       (call n s (openFile s) ≡ Refuses f) ↔ ((length (readFile s .records) ≤ n) × FileRefusal s (readFile s .records) f)

@@ -1,9 +1,9 @@
 -- Document 01, "Numbers a caller gets back": which numbers each call answers, each with what stands in the table's column "Place".
 -- Assumes nothing.
-use Prim.Native.Nat.{ℕ, _-_, _/_, _%_, _≤_, _<_}
+use Prim.Native.Nat.{ℕ, _+_, _-_, _%_, _≤_, _<_}
 use mathlib.Core.Path.{_≡_}
 use mathlib.Core.Bool.{true, false}
-use mathlib.Core.List.{List, []}
+use mathlib.Core.List.{List, [], _∷_, _++_}
 use mathlib.Core.Logic.{_⊎_}
 use lib.ListN.{length, getD}
 use Rattle.cells.specs.Text.{among, digit}
@@ -11,7 +11,9 @@ use Rattle.cells.specs.Test as test
 use Rattle.cells.specs.Cells.{char}
 use Rattle.usage.specs.Usage.{details, kinds, occasions, fullDay, table8, inTable, pairs, inPairs}
 use Rattle.supplement.specs.Supplement.{lastDay, emptyWeek}
-use Rattle.days.specs.Run.{eights, aMonth}
+use Rattle.supplement.specs.declared.Supplement.{Supplement}
+use Rattle.days.specs.Run.{aMonth, answersIn}
+use Rattle.schedule.specs.Schedule.{dateRun}
 use Rattle.date.specs.Date.{exists, isDate}
 use Rattle.date.specs.Print.{printDate}
 use Rattle.date.specs.declared.Date.{Date}
@@ -60,21 +62,26 @@ pub data SupplementNumber (s : List ℕ) : ℕ → ℕ → Type 0 where
   -- 9 "hour or day not rising": itself
   rising : {p : ℕ} → among "D" (char s 1) ≡ true → 4 ≤ p → p ≤ 8 → digit (char s p) ≤ digit (char s (p - 1)) → SupplementNumber s 9 p
 
--- The kth code of a run: its eight characters.
-abbrev pub codeIn : List ℕ → ℕ → List ℕ
-codeIn s k = getD (eights (length s / 8) s) (k - 1) []
+-- "Code by code", from the jth on, after codes that read as xs: the kth is answered by a, and those before it, which read as ys, are an allowed run, each up to it.
+pub data Comes (issue : ℕ) : ℕ → List Supplement → List (test.Answer Supplement) → ℕ → List Supplement → test.Answer Supplement → Type 0 where
+  here : {j : ℕ} {xs : List Supplement} {a : test.Answer Supplement} {more : List (test.Answer Supplement)} → Comes issue j xs (a ∷ more) j xs a
+  next : {j k : ℕ} {xs ys : List Supplement} {x : Supplement} {a : test.Answer Supplement} {more : List (test.Answer Supplement)} →
+      dateRun issue (xs ++ (x ∷ [])) ≡ true → Comes issue (j + 1) (xs ++ (x ∷ [])) more k ys a → Comes issue j xs (test.took x ∷ more) k ys a
 
--- A run for an issue month: number, place, and for a code's own refusal the code's number.
+-- A run for an issue month: number, place, and for a code's own refusal the code's number. "Runs: 10, 1, then code by code its own refusal and 12."
 pub data RunNumber (issue : ℕ) (s : List ℕ) : ℕ → ℕ → ℕ → Type 0 where
   -- 10 "issue month not 1 to 12": 0
   month : aMonth issue ≡ false → RunNumber issue s 10 0 0
   -- 1 "run not whole codes": 0
-  notWhole : (length s % 8 ≡ 0 → ⊥) → RunNumber issue s 1 0 0
-  -- 12 "the codes up to this one begin no allowed run; or run empty (0)": code number
-  empty : length s ≡ 0 → RunNumber issue s 12 0 0
-  noRun : {k : ℕ} → 1 ≤ k → k ≤ length s / 8 → RunNumber issue s 12 k 0
-  -- "code by code its own refusal (the code number with it)"
-  own : {n p k : ℕ} → 1 ≤ k → k ≤ length s / 8 → SupplementNumber (codeIn s k) n p → RunNumber issue s n p k
+  notWhole : aMonth issue ≡ true → (length s % 8 ≡ 0 → ⊥) → RunNumber issue s 1 0 0
+  -- 12 "run empty (0)"
+  empty : aMonth issue ≡ true → length s ≡ 0 → RunNumber issue s 12 0 0
+  -- 12 "the codes up to this one begin no allowed run": code number
+  noRun : {k : ℕ} {xs : List Supplement} {x : Supplement} → aMonth issue ≡ true → length s % 8 ≡ 0 → Comes issue 1 [] (answersIn s) k xs (test.took x) →
+      dateRun issue (xs ++ (x ∷ [])) ≡ false → RunNumber issue s 12 k 0
+  -- "its own refusal (the code number with it)", of which `SupplementNumber` says more
+  own : {n p k : ℕ} {xs : List Supplement} → aMonth issue ≡ true → length s % 8 ≡ 0 → Comes issue 1 [] (answersIn s) k xs (test.refused n p) →
+      RunNumber issue s n p k
 
 -- A set of days that is not written: number and place. "Sets: 10, 11, 33."
 pub data SetNumber : ℕ → ℕ → Type 0 where
@@ -97,7 +104,7 @@ pub data DateNumber (y m d : ℕ) : ℕ → ℕ → Type 0 where
 
 -- Characters that are no date's.
 pub data DateTextNumber (s : List ℕ) : ℕ → ℕ → Type 0 where
-  -- 27 "number, date, ..", which is written YYYYMMDD or as an era, two-digit year and MMDD: 0
+  -- 27 "number, date, amount, site or drug code": no date is written so
   noDate : ((t : Date) → isDate t ≡ true → printDate t ≡ s → ⊥) → DateTextNumber s 27 0
 
 -- The numbers of a record,
@@ -132,7 +139,7 @@ CodeNumber f n p = UsageNumber f n p ⊎ SupplementNumber f n p
 abbrev pub atField : ℕ → ℕ → ℕ → ℕ → ℕ → Refusal
 atField number at field code place = record { number = number; at = at; field = field; code = code; place = place }
 
--- What a reader tells of the line at an offset of the file s, whatever it is handed for its state: `Refused` says what it tells from opening on.
+-- What a reader tells of the line at an offset of the file s, whatever state it is handed. What it tells from opening on is said in `Refused`.
 pub data LineRefusal (s : List ℕ) (at : ℕ) : Refusal → Type 0 where
   -- 23, 24, 32, 25: record
   ofRecord : {n : ℕ} → RecordNumber n → LineRefusal s at (refusal n at)

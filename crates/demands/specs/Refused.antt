@@ -74,7 +74,14 @@ pub data CodeRefused (r : Rule) (f : List ℕ) : ℕ → ℕ → Type 0 where
 abbrev pub numberOn : List ℕ → ℕ
 numberOn l = recordNumber (split l)
 
--- The line l at an offset is refused, after records of these numbers, which leave c, and xs as the supplements of its RP.
+-- A line after records of these numbers, which leave c, and xs as the supplements of its RP: its number stands well, it has as many fields as the table says,
+-- and the kth of them, counted from 1, is the first that may be wrong: f, with the rule r.
+pub record AtField (before : List ℕ) (c : Sofar) (xs : List Supplement) (l : List ℕ) (k : ℕ) (r : Rule) (f : List ℕ) : Type 0 where
+  pub stands : Verdict before (numberOn l) 0
+  pub count : counted (numberOn l) (fieldsIn l) ≡ true
+  pub reaches : Reaches (mayJoin c xs) c 1 (rules (numberOn l) (fieldsIn l)) (fieldsIn l) k r f
+
+-- The line l at an offset is refused, after such records.
 pub data WrongLine (before : List ℕ) (c : Sofar) (xs : List Supplement) (at : ℕ) (l : List ℕ) : Refusal → Type 0 where
   -- 23 "unknown record number": record
   unknown : Verdict before (numberOn l) 23 → WrongLine before c xs at l (refusal 23 at)
@@ -85,12 +92,10 @@ pub data WrongLine (before : List ℕ) (c : Sofar) (xs : List Supplement) (at : 
   -- 25 "number of fields": record
   count : Verdict before (numberOn l) 0 → counted (numberOn l) (fieldsIn l) ≡ false → WrongLine before c xs at l (refusal 25 at)
   -- 28, 26, 27, 30, 31: record, field
-  field : {n k : ℕ} {r : Rule} {f : List ℕ} → Verdict before (numberOn l) 0 → counted (numberOn l) (fieldsIn l) ≡ true →
-      Reaches (mayJoin c xs) c 1 (rules (numberOn l) (fieldsIn l)) (fieldsIn l) k r f → FieldNumber n → wrong (mayJoin c xs) c r f ≡ n →
+  field : {n k : ℕ} {r : Rule} {f : List ℕ} → AtField before c xs l k r f → FieldNumber n → wrong (mayJoin c xs) c r f ≡ n →
       WrongLine before c xs at l (atField n at k 0 0)
   -- 29 "code refused; its own number and place follow": record, field
-  code : {n p k : ℕ} {r : Rule} {f : List ℕ} → Verdict before (numberOn l) 0 → counted (numberOn l) (fieldsIn l) ≡ true →
-      Reaches (mayJoin c xs) c 1 (rules (numberOn l) (fieldsIn l)) (fieldsIn l) k r f → wrong (mayJoin c xs) c r f ≡ 29 → CodeRefused r f n p →
+  code : {n p k : ℕ} {r : Rule} {f : List ℕ} → AtField before c xs l k r f → wrong (mayJoin c xs) c r f ≡ 29 → CodeRefused r f n p →
       WrongLine before c xs at l (atField 29 at k n p)
 
 -- ---- the file
