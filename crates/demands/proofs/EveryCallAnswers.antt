@@ -64,7 +64,7 @@ number-and-place = eachCall.number-and-place
 -- ---- ", and changes no byte of a lent buffer"
 -- A set of days that is refused: 10, 11 or 33, and the buffer is as it was.
 pub set-refused : (issue : ℕ) (cells before after : List ℕ) (w : Wrote) → WritesSet issue cells before after w → (n p : ℕ) → said w ≡ refused n p →
-    SetNumber n p × (after ≡ before)
+    SetNumber issue cells before n p × (after ≡ before)
 set-refused = runs.set-refused
 
 -- The writer's calls, opening, putting a record, closing: 33, or 34 with the reader's own number; the state handed in; the buffer as it was.

@@ -190,7 +190,7 @@ begins-only run before after to e l h =
 
 module _ (issue : ℕ) (cells before after : List ℕ) (w : Wrote) (k : WritesSet issue cells before after w) where
   -- which answer it is
-  by-set : {P : Type 0} → ((n p : ℕ) → SetNumber n p → said w ≡ refused n p → after ≡ before → P) →
+  by-set : {P : Type 0} → ((n p : ℕ) → SetNumber issue cells before n p → said w ≡ refused n p → after ≡ before → P) →
       ((n : ℕ) → said w ≡ took n → OnlyBetween 0 (8 * n) before after → P) → P
   by-set f g =
       split (aMonth issue)
@@ -201,18 +201,18 @@ module _ (issue : ℕ) (cells before after : List ℕ) (w : Wrote) (k : WritesSe
       (λ d. let u = q .fits (leb-true _ _ d) in
       g (length (q .run) / 8) (u .0)
       (begins-only (q .run) before after (8 * (length (q .run) / 8)) (whole-codes issue (q .run) cells (q .reads)) (leb-true _ _ d) (u .1)))
-      (λ d. let u = q .short (leb-false _ _ d) in f 33 0 room (u .0) (u .1)))
-      (λ b. let u = k .cannot a b in f 11 0 cannot (u .0) (u .1)))
-      (λ a. let u = k .noMonth a in f 10 0 numbers.SetNumber.month (u .0) (u .1))
+      (λ d. let u = q .short (leb-false _ _ d) in f 33 0 (room (q .run) (q .reads) (leb-false _ _ d)) (u .0) (u .1)))
+      (λ b. let u = k .cannot a b in f 11 0 (cannot a b) (u .0) (u .1)))
+      (λ a. let u = k .noMonth a in f 10 0 (numbers.SetNumber.month a) (u .0) (u .1))
 
   -- A set that is refused is told 10, 11 or 33, and no byte changes.
-  pub set-refused : (n p : ℕ) → said w ≡ refused n p → SetNumber n p × (after ≡ before)
+  pub set-refused : (n p : ℕ) → said w ≡ refused n p → SetNumber issue cells before n p × (after ≡ before)
   set-refused n p h =
       by-set
       (λ m q x e u.
       let d : m ≡ n = cc in
       let i : q ≡ p = cc in
-      (subst (λ (y : ℕ). SetNumber y p) d (subst (SetNumber m) i x), u))
+      (subst (λ (y : ℕ). SetNumber issue cells before y p) d (subst (SetNumber issue cells before m) i x), u))
       (λ m e u. absurd (let z : _≡_ {A = ℕ} 0 1 = cc in omega arith))
 
   -- One that is written changes only the bytes of the codes that it tells.

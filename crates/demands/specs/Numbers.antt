@@ -12,7 +12,8 @@ use Rattle.cells.specs.Cells.{char}
 use Rattle.usage.specs.Usage.{details, kinds, occasions, fullDay, table8, inTable, pairs, inPairs}
 use Rattle.supplement.specs.Supplement.{lastDay, emptyWeek}
 use Rattle.supplement.specs.declared.Supplement.{Supplement}
-use Rattle.days.specs.Run.{aMonth, answersIn}
+use Rattle.days.specs.Run.{takes, aMonth, answersIn, readRun}
+use Rattle.days_writer.specs.Set.{writable}
 use Rattle.schedule.specs.Schedule.{dateRun}
 use Rattle.date.specs.Date.{exists, isDate}
 use Rattle.date.specs.Print.{printDate}
@@ -83,14 +84,14 @@ pub data RunNumber (issue : ℕ) (s : List ℕ) : ℕ → ℕ → ℕ → Type 0
   own : {n p k : ℕ} {xs : List Supplement} → aMonth issue ≡ true → length s % 8 ≡ 0 → Comes issue 1 [] (answersIn s) k xs (test.refused n p) →
       RunNumber issue s n p k
 
--- A set of days that is not written: number and place. "Sets: 10, 11, 33."
-pub data SetNumber : ℕ → ℕ → Type 0 where
+-- A set of days that is not written for an issue month into a buffer: number and place. "Sets: 10, 11, 33 exactly when the buffer is shorter than the codes."
+pub data SetNumber (issue : ℕ) (cells buffer : List ℕ) : ℕ → ℕ → Type 0 where
   -- 10 "issue month not 1 to 12": 0
-  month : SetNumber 10 0
+  month : aMonth issue ≡ false → SetNumber issue cells buffer 10 0
   -- 11 "day set cannot be written": 0
-  cannot : SetNumber 11 0
+  cannot : aMonth issue ≡ true → writable cells ≡ false → SetNumber issue cells buffer 11 0
   -- 33 "no room": 0
-  room : SetNumber 33 0
+  room : (run : List ℕ) → readRun issue run ≡ takes cells → length buffer < length run → SetNumber issue cells buffer 33 0
 
 -- "No such day or year is 27, place 0": document 01's number and values of a date that a caller makes.
 abbrev pub saidDate : Made → test.Answer Date
