@@ -19,8 +19,10 @@ use Rattle.reader.specs.declared.Handed.the-variants.{Record as Hands, Refused 
 use Rattle.reader.proofs.Laws as reader
 use Rattle.demands.specs.EachCall.{Answered, NumberAndPlace}
 use Rattle.demands.specs.Numbers.{SetNumber}
+use Rattle.demands.specs.Refused.{FileRefusal}
 use Rattle.demands.specs.Lent.{OnlyBetween, Refusing, Call, handed, answer}
 use Rattle.demands.proofs.EachCall as eachCall
+use Rattle.demands.proofs.Exactly as exactly
 use Rattle.demands.proofs.Runs as runs
 use Rattle.demands.proofs.Calls as calls
 use Rattle.demands.proofs.Writing as writing
@@ -57,9 +59,13 @@ pub ends-again : (s : List ℕ) (t : State) → nextRecord s t .next ≡ End →
 ends-again = reader.ever-ended
 
 -- ---- "A refusal is one of document 01's numbers, with its place"
--- Call by call: reading a code, a run, a file; making a date; writing a code.
+-- Call by call: reading a code, a run, a file; making and reading a date; writing a code.
 pub number-and-place : NumberAndPlace
 number-and-place = eachCall.number-and-place
+
+-- Of a file these words name one refusal, one number at one place.
+pub one-refusal : (s : List ℕ) (f g : Refusal) → FileRefusal s (readFile s .records) f → FileRefusal s (readFile s .records) g → f ≡ g
+one-refusal = exactly.one-refusal
 
 -- ---- ", and changes no byte of a lent buffer"
 -- A set of days that is refused: 10, 11 or 33, and the buffer is as it was.

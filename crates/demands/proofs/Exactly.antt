@@ -232,3 +232,7 @@ module _ (s : List ℕ) where
     λ h. let k = told-refused n (readFile s .records) (readFile s .ending) f (sym (reader.calls s n) ∙ h) in (k .0, file-refused s f (k .1)),
     λ h. reader.calls s n ∙ told-end n (readFile s .records) (readFile s .ending) (h .0) ∙ ap endingOf (file-told f (h .1)),
   )
+
+  -- So two refusals that its words say are one.
+  pub one-refusal : (f g : Refusal) → FileRefusal s (readFile s .records) f → FileRefusal s (readFile s .records) g → f ≡ g
+  one-refusal f g h k = let e : stopped f ≡ stopped g = sym (file-told f h) ∙ file-told g k in cc
