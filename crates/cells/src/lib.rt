@@ -1,9 +1,10 @@
-// Characters of codes, sets of them, and the first fault of a row of characters, tested from left to right.
+// Characters of codes, sets of them, the first fault of a row of characters, tested from left to right, and codes compared.
 ghost use mathlib.Core.Path.{_≡_};
 ghost use Prim.Native.Nat.{_+_, _-_, _<_, _≤_};
 ghost use lib.ListN.{length};
-ghost use Rattle.cells.specs.Code.Mask.{value as valueOf, has as hasOf, wrong as wrongOf, unused as unusedOf, wrongAt, scan};
 ghost use Rattle.cells.specs.Text.{letter as letterOf};
+ghost use Rattle.cells.specs.Same.{Compares};
+ghost use Rattle.cells.specs.Code.Mask.{value as valueOf, has as hasOf, wrong as wrongOf, unused as unusedOf, wrongAt, scan};
 
 // One of document 01's numbers, and a place; the number 0 says that nothing is at fault.
 pub struct Fault {
@@ -126,4 +127,35 @@ pub fn first_fault(sets: &[u64], rise: usize, last: u8, s: &[u8], from: usize) -
         number: 0,
         place: 0,
     }
+}
+
+// Are these the same bytes, one by one?
+pub fn same_bytes(a: &[u8], b: &[u8]) -> bool
+    ensures { λ r. ⌜ Compares (now (a .entry)) (now (b .entry)) r ⌝ }
+{
+    if a.len() != b.len() {
+        return false;
+    }
+    let mut i: usize = 0;
+    while i < a.len() {
+        if a[i] != b[i] {
+            return false;
+        }
+        i += 1;
+    }
+    true
+}
+
+// Are two usage codes one, character by character?
+pub fn same_16(a: [u8; 16], b: [u8; 16]) -> bool
+    ensures { λ r. ⌜ Compares a b r ⌝ }
+{
+    same_bytes(&a, &b)
+}
+
+// Are two supplementary codes one, character by character?
+pub fn same_8(c: [u8; 8], d: [u8; 8]) -> bool
+    ensures { λ r. ⌜ Compares c d r ⌝ }
+{
+    same_bytes(&c, &d)
 }
