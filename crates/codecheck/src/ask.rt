@@ -57,6 +57,41 @@ pub fn byte(line: &[u8], at: usize) -> u8 {
     0
 }
 
+// The first sixteen bytes, and the first eight; 0 past the end.
+pub fn sixteen(text: &[u8]) -> [u8; 16] {
+    [
+        byte(text, 0),
+        byte(text, 1),
+        byte(text, 2),
+        byte(text, 3),
+        byte(text, 4),
+        byte(text, 5),
+        byte(text, 6),
+        byte(text, 7),
+        byte(text, 8),
+        byte(text, 9),
+        byte(text, 10),
+        byte(text, 11),
+        byte(text, 12),
+        byte(text, 13),
+        byte(text, 14),
+        byte(text, 15),
+    ]
+}
+
+pub fn eight(text: &[u8]) -> [u8; 8] {
+    [
+        byte(text, 0),
+        byte(text, 1),
+        byte(text, 2),
+        byte(text, 3),
+        byte(text, 4),
+        byte(text, 5),
+        byte(text, 6),
+        byte(text, 7),
+    ]
+}
+
 pub fn after(at: usize) -> usize {
     if at < 1048577 {
         return at + 1;

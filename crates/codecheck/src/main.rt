@@ -1,5 +1,6 @@
 // Answers questions about codes from standard input, a line each, on standard output, a line each:
 //   usage CODE           supplement CODE        CODE is every byte after the first space
+//   again CODE                                  a code of sixteen or eight characters, read and written again
 //   run MONTH CODES      set MONTH SET ROOM     SET is CELL:DAY,DAY/CELL:DAY.. or -
 //   date YEAR MONTH DAY STYLE                   STYLE is none, era or western
 mod ask;
@@ -43,6 +44,9 @@ fn answer(line: &[u8]) {
     if ask::begins(line, b"supplement ") {
         return on_supplement(ask::from(line, 11));
     }
+    if ask::begins(line, b"again ") {
+        return on_again(ask::from(line, 6));
+    }
     if ask::begins(line, b"run ") {
         return on_run(line);
     }
@@ -65,6 +69,36 @@ fn on_usage(code: &[u8]) {
 fn on_supplement(code: &[u8]) {
     match supplement::read(code) {
         supplement::Reading::Taken(x) => say::supplement(x),
+        supplement::Reading::Refused(f) => say::refusal(f.number, f.place),
+    }
+}
+
+// A code of eight characters is a supplementary code, any other a usage code, which refuses every length but sixteen.
+fn on_again(code: &[u8]) {
+    if code.len() == 8 {
+        return again_supplement(code);
+    }
+    again_usage(code)
+}
+
+fn again_usage(code: &[u8]) {
+    match usage::read(code) {
+        usage::Reading::Taken(i) => {
+            let w = usage_writer::write(i);
+            let written = w.code;
+            say::same(cells::same_16(written, ask::sixteen(code)))
+        }
+        usage::Reading::Refused(f) => say::refusal(f.number, f.place),
+    }
+}
+
+fn again_supplement(code: &[u8]) {
+    match supplement::read(code) {
+        supplement::Reading::Taken(x) => {
+            let w = supplement_writer::write(x);
+            let written = w.code;
+            say::same(cells::same_8(written, ask::eight(code)))
+        }
         supplement::Reading::Refused(f) => say::refusal(f.number, f.place),
     }
 }

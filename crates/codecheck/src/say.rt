@@ -52,6 +52,14 @@ pub fn refusal(code: u8, place: usize) {
     number(place)
 }
 
+// Is a code that was read the one that is written for it?
+pub fn same(yes: bool) {
+    if yes {
+        return words(b"same");
+    }
+    words(b"different")
+}
+
 // A date as it is written.
 fn day_text(t: Date) {
     let p = date::print(t);

@@ -1,6 +1,8 @@
 // Checks every sheet whose name stands on standard input, a name a line, and prints each name with the line that tells what the sheet is read as.
-// A sheet that is taken is written again too, and a line of its own tells whether that gave the same bytes. After the word `labels` a name
-// asks for the sheet's bag labels instead.
+// A sheet that is taken is written again too, and a line of its own tells whether that gave the same bytes; each of its codes is written again
+// by itself, and a last line tells how many came out otherwise. After the word `labels` a name asks for the sheet's bag labels instead.
+mod codes;
+use codes::Again;
 use libc::STDOUT_FILENO;
 use reader::Checked;
 ghost use mathlib.Core.Path.{_≡_};
@@ -38,13 +40,16 @@ fn name_end(s: &[u8], at: usize) -> usize
     s.len()
 }
 
+// Every name of the list, and what became of the codes of all its sheets.
 fn check_each(names: &[u8]) {
     let mut at: usize = 0;
+    let mut a = codes::none();
     while at < names.len() {
         let end = name_end(names, at);
-        tell_line(&names[at..end]);
+        a = tell_line(&names[at..end], a);
         at = end + 1;
     }
+    codes::tell(a)
 }
 
 // Does a line begin with the word `labels` and a space?
@@ -60,52 +65,54 @@ fn asks_labels(s: &[u8]) -> bool
                 & ((s[3] == b'e') & ((s[4] == b'l') & ((s[5] == b's') & (s[6] == b' '))))))
 }
 
-fn tell_line(line: &[u8]) {
+fn tell_line(line: &[u8], a: Again) -> Again {
     if asks_labels(line) {
-        return tell_file(&line[7..line.len()], true);
+        return tell_file(&line[7..line.len()], true, a);
     }
-    tell_file(line, false)
+    tell_file(line, false, a)
 }
 
 // A sheet that can't be opened is told as one, and never passes for any answer.
-fn tell_file(name: &[u8], labels: bool) {
+fn tell_file(name: &[u8], labels: bool, a: Again) -> Again {
     io::write_all(STDOUT_FILENO, name);
     let fd = os::open_read(name);
     if fd < 0 {
         io::write_all(STDOUT_FILENO, b" cannot be opened\n");
-        return;
+        return a;
     }
     let mut room = [0u8; 16385];
-    tell_into(&mut room, fd, labels);
+    let b = tell_into(&mut room, fd, labels, a);
     libc::close(fd);
+    b
 }
 
-fn tell_into(room: &mut [u8; 16385], fd: i32, labels: bool) {
-    tell_from(room, fd, labels);
+fn tell_into(room: &mut [u8; 16385], fd: i32, labels: bool, a: Again) -> Again {
+    tell_from(room, fd, labels, a)
 }
 
-fn tell_from(room: &mut [u8], fd: i32, labels: bool) {
+fn tell_from(room: &mut [u8], fd: i32, labels: bool, a: Again) -> Again {
     let n = io::read_full(fd, room);
-    tell_sheet(&room[0..n], labels);
+    tell_sheet(&room[0..n], labels, a)
 }
 
-fn tell_sheet(s: &[u8], labels: bool) {
+fn tell_sheet(s: &[u8], labels: bool, a: Again) -> Again {
     if labels {
         io::write_all(STDOUT_FILENO, b"\n");
         label::sheet(s);
-        return;
+        return a;
     }
     io::write_all(STDOUT_FILENO, b" ");
-    check_sheet(s)
+    check_sheet(s, a)
 }
 
-fn check_sheet(s: &[u8]) {
+fn check_sheet(s: &[u8], a: Again) -> Again {
     match report::sheet(s) {
         Checked::Records(_) => {
             let mut again = [0u8; 16384];
             write_into(s, &mut again);
+            codes::of_sheet(s, a)
         }
-        Checked::Refused(_) => {}
+        Checked::Refused(_) => a,
     }
 }
 
@@ -115,26 +122,9 @@ fn write_into(s: &[u8], again: &mut [u8; 16384]) {
 
 fn write_again(s: &[u8], again: &mut [u8]) {
     let n = rewriter::rewrite(s, again);
-    if same(s, &again[0..n]) {
+    if cells::same_bytes(s, &again[0..n]) {
         io::write_all(STDOUT_FILENO, b"  written back\n");
         return;
     }
     io::write_all(STDOUT_FILENO, b"  written differently\n");
-}
-
-// Are these the same bytes?
-fn same(a: &[u8], b: &[u8]) -> bool
-    ensures { λ r. ⌜ (r ≡ true → now (a .entry) ≡ now (b .entry)) × (now (a .entry) ≡ now (b .entry) → r ≡ true) ⌝ }
-{
-    if a.len() != b.len() {
-        return false;
-    }
-    let mut i: usize = 0;
-    while i < a.len() {
-        if a[i] != b[i] {
-            return false;
-        }
-        i += 1;
-    }
-    true
 }

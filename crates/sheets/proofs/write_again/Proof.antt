@@ -8,19 +8,19 @@ use Rattle.sheets.proofs.write_again.Tie as tie
 rewrite-requires : tie.Need-rewrite-requires
 rewrite-requires c κs = search needs
 
-sub-same : tie.Need-sub-same
-sub-same c = search needs
+sub-same-bytes : tie.Need-sub-same-bytes
+sub-same-bytes c = search needs
 
-part-same-start : tie.Need-part-same-start
-part-same-start c = search needs
+part-same-bytes-start : tie.Need-part-same-bytes-start
+part-same-bytes-start c = search needs
 
-part-same-end : tie.Need-part-same-end
-part-same-end c =
+part-same-bytes-end : tie.Need-part-same-bytes-end
+part-same-bytes-end c =
     let a = c .before .before .before .before .before .before .before .args in
     omega (arith, inside (a .s .now) (a .again .now) _ (c .before .before .before .rewrite .ensures))
 
-same-requires : tie.Need-same-requires
-same-requires c κs = search needs
+same-bytes-requires : tie.Need-same-bytes-requires
+same-bytes-requires c κs = search needs
 
 slice-aggregate-write-all : tie.Need-slice-aggregate-write-all
 slice-aggregate-write-all c = search needs
@@ -51,10 +51,10 @@ write-again-spec =
     tie.close
     (tie.spec
     rewrite-requires
-    sub-same
-    part-same-start
-    part-same-end
-    same-requires
+    sub-same-bytes
+    part-same-bytes-start
+    part-same-bytes-end
+    same-bytes-requires
     slice-aggregate-write-all
     write-all-requires
     same-length
