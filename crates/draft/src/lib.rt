@@ -36,3 +36,25 @@ pub fn close<'a>(d: Draft<'a>) -> Draft<'a>
     let told = writer::close(&mut *d.out, t);
     Draft { out: d.out, told }
 }
+
+// The same three calls on a buffer and what the last call told: each makes the draft that is there, and lets go of it. They speak of no draft, so
+// whoever calls them needs no walk by hand.
+pub fn begin(out: &mut [u8]) -> Told
+    ensures { λ r. ⌜ record { put = r; buffer = now (out .exit) } ≡ openBuffer (now (out .entry)) ⌝ }
+{
+    open(out).told
+}
+
+// One record more.
+pub fn add(out: &mut [u8], told: Told, r: Record, lent: &[u8]) -> Told
+    ensures { λ v. ⌜ record { put = v; buffer = now (out .exit) } ≡ putRecord (now (out .entry)) (told .state) r (now (lent .entry)) ⌝ }
+{
+    put(Draft { out, told }, r, lent).told
+}
+
+// The end.
+pub fn finish(out: &mut [u8], told: Told) -> Told
+    ensures { λ v. ⌜ record { put = v; buffer = now (out .exit) } ≡ closeBuffer (now (out .entry)) (told .state) ⌝ }
+{
+    close(Draft { out, told }).told
+}

@@ -61,12 +61,12 @@ fn labels(s: &[u8]) {
     label_records(s, &mut codes);
 }
 
-// Record by record; a sheet that is taken ends with no refusal.
+// Record by record, through the sheet that carries its file; one that is taken ends with no refusal.
 fn label_records(s: &[u8], codes: &mut [u8]) {
-    let mut t = reader::open(s);
+    let mut t = sheet::begin(s);
     let mut bag = no_bag();
     loop {
-        let step = reader::next(s, t);
+        let step = sheet::step(s, t);
         let answer = step.next;
         match answer {
             Handed::Record(r) => {

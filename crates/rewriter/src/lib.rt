@@ -8,29 +8,27 @@ ghost use lib.ListN.{length, drop};
 ghost use Rattle.reader.specs.File.{whole, readFile};
 ghost use Rattle.rewriter.specs.Rewritten.{rewritten};
 
-// Puts every record of a whole file with the file lent beside it, and closes.
+// Puts every record of a whole file into a draft, with the file lent beside it, and closes it.
 fn put_all(s: &[u8], out: &mut [u8]) -> usize
     requires { ⌜ (readFile (now s) .ending ≡ whole) × (length (now s) ≤ length (now out)) ⌝ }
     ensures { λ r. ⌜ (now (out .exit) ≡ now (s .entry) ++ drop (length (now (s .entry))) (now (out .entry))) × (r ≡ length (now (s .entry))) ⌝ }
 {
     let mut from = reader::open(s);
-    let opened = writer::open(out);
-    let mut to = opened.state;
+    let mut told = draft::begin(out);
     loop {
         let step = reader::next(s, from);
         let handed = step.next;
         match handed {
             Handed::Record(r) => {
-                let told = writer::put(out, to, r, s);
-                to = told.state;
+                told = draft::add(out, told, r, s);
                 from = step.state;
             }
             Handed::Refused(_) => {
                 return 0;
             }
             Handed::End => {
-                let told = writer::close(out, to);
-                return told.state.at;
+                let last = draft::finish(out, told);
+                return last.state.at;
             }
         }
     }

@@ -45,16 +45,17 @@ pub fn text<'a>(r: Sheet<'a>, p: Place) -> &'a [u8]
     record::text(r.file, p)
 }
 
-// The first step of a file. It speaks of no sheet, so whoever calls it needs no walk by hand.
-pub fn first_step(file: &[u8]) -> Step
-    ensures { λ s. ⌜ s ≡ nextRecord (now (file .entry)) (openFile (now (file .entry))) ⌝ }
+// The state that a file is read from on: a sheet is opened, and let go of. It and `step` speak of no sheet, so whoever calls them needs no walk by
+// hand.
+pub fn begin(file: &[u8]) -> State
+    ensures { λ t. ⌜ t ≡ openFile (now (file .entry)) ⌝ }
 {
-    next(open(file))
+    open(file).state
 }
 
-// The first record of a file, its refusal or its end.
-pub fn first(file: &[u8]) -> Handed
-    ensures { λ r. ⌜ r ≡ nextRecord (now (file .entry)) (openFile (now (file .entry))) .next ⌝ }
+// One step of the sheet that is at a state of a file.
+pub fn step(file: &[u8], state: State) -> Step
+    ensures { λ s. ⌜ s ≡ nextRecord (now (file .entry)) state ⌝ }
 {
-    first_step(file).next
+    next(Sheet { file, state })
 }

@@ -16,8 +16,8 @@ Inv-loop s codes₀ t₀ bag₀ t8 codes t bag = length codes ≡ length codes�
 abbrev μ-loop : tie.MeasureT-loop
 μ-loop s codes₀ t₀ bag₀ t8 codes t bag = length s - t .at
 
-open-requires : tie.Need-open-requires Inv-loop μ-loop
-open-requires c κs = search needs
+begin-requires : tie.Need-begin-requires Inv-loop μ-loop
+begin-requires c κs = search needs
 
 no-bag-requires : tie.Need-no-bag-requires Inv-loop μ-loop
 no-bag-requires c κs = search needs
@@ -25,8 +25,8 @@ no-bag-requires c κs = search needs
 loop-holds : tie.Need-loop-holds Inv-loop μ-loop
 loop-holds c = search needs
 
-next-requires : tie.Need-next-requires Inv-loop μ-loop
-next-requires c κs = search needs
+step-requires : tie.Need-step-requires Inv-loop μ-loop
+step-requires c κs = search needs
 
 enum-known-answer : tie.Need-enum-known-answer Inv-loop μ-loop
 enum-known-answer c = search needs
@@ -38,7 +38,7 @@ loop-less : tie.Need-loop-less Inv-loop μ-loop
 loop-less c =
     let a = c .before .before .before .before .before .before .before .before .before .before .before .before .before .before .args in
     let l = c .before .before .before .before .before .before .before .before .before .loop in
-    let r = c .before .before .before .before .before .before .before .before .next in
+    let r = c .before .before .before .before .before .before .before .before .step in
     let h = ap (λ (x : Step). x .next) (sym (r .ensures)) ∙ c .before .before .before .before .before .before .answer .given .1 in
     let m : l .t .at < nextRecord (a .s .now) (l .t) .state .at = moves (a .s .now) (l .t) _ h in
     let i : l .t .at < length (a .s .now) = was-inside (a .s .now) (l .t) _ h in
@@ -78,10 +78,10 @@ label-records-spec =
     (tie.spec
     Inv-loop
     μ-loop
-    open-requires
+    begin-requires
     no-bag-requires
     loop-holds
-    next-requires
+    step-requires
     enum-known-answer
     with-record-requires
     loop-less
