@@ -5,8 +5,8 @@ use mathlib.Core.Path.{_≡_, refl, _∙_, sym, ap, subst}
 use mathlib.Core.Bool.{Bool, true, false}
 use mathlib.Core.List.{List, [], _∷_, _++_}
 use native.Mathlib.Omega.{arith}
-use borrow.Author.Tests.{eqb-true, eq-eqb, ltb-true}
-use lib.Dec.{ltb, eqb}
+use borrow.Author.Tests.{eqb-true, eqb-false, eq-eqb}
+use lib.Dec.{eqb}
 use lib.ListN.{length, drop}
 use Rattle.cells.proofs.Split.{split as cases}
 use Rattle.cells.proofs.Alike.{and-left, and-right}
@@ -29,12 +29,12 @@ use Rattle.record_line.proofs.Same.{same-parts}
 use Rattle.record_line.proofs.Leaves.{Keeps, leaves}
 use Rattle.reader.specs.Open.{fileFault}
 use Rattle.reader.specs.File.{File, Ending, whole, stopped, ended, before, on as upon, readLines, readFile}
-use Rattle.reader.specs.Reader.{openFile, endAt, closing, on, nextRecord, call, endingOf}
+use Rattle.reader.specs.Reader.{openFile, endAt, saidAgain, closing, on, nextRecord, call, endingOf}
 use Rattle.reader.specs.declared.State.{State}
 use Rattle.reader.specs.declared.Handed.{Handed}
 use Rattle.reader.specs.declared.Handed.the-variants.{Record as Hands, Refused as Refuses, End}
 use Rattle.reader.specs.declared.Step.{Step}
-use Rattle.reader.proofs.Lines.{Opened, opens, line-fields, no-end, after-line, at-end}
+use Rattle.reader.proofs.Lines.{Opened, opens, kept, line-fields, no-end, took-inside, after-line, at-end}
 
 -- an answer that leaves the state as it was, and one that hands out a record and goes on
 abbrev pub stays : State → Handed → Step
@@ -64,35 +64,29 @@ module _ (s : List ℕ) (t : State) where
       simp (eq-eqb _ _ z, e)
       (on-answer (readParts joinsOf (t .sofar) (t .at) (fieldsAt s (t .at))) (t .at + length (join (fieldsAt s (t .at))) + 2))
 
-  -- a line is inside the file
-  line-inside : endAt s (t .at) ≡ false → t .at < length s
-  unfolding endAt
-  line-inside e =
-      cases (ltb (t .at) (length s)) (λ h. ltb-true _ _ h)
-      (λ h. absurd (let k = simp h at e in let z : _≡_ {A = ℕ} 0 1 = cc in omega arith))
-
-  refused-before : eqb (t .number) 0 ≡ false → nextRecord s t ≡ stays t (Refuses (refusal (t .number) (t .at)))
+  refused-before : eqb (t .number) 0 ≡ false → nextRecord s t ≡ stays t (Refuses (refusal (saidAgain (t .number)) (t .at)))
   unfolding nextRecord
   refused-before e = simp e
 
   -- a refusal, the end, or a record
   pub by-call : {P : Type 0} →
       ((f : Refusal) → nextRecord s t ≡ stays t (Refuses f) → P) →
-      (nextRecord s t ≡ stays t End → P) →
+      (t .number ≡ 0 → endAt s (t .at) ≡ true → closes (t .sofar .last) ≡ true → nextRecord s t ≡ stays t End → P) →
       ((r : Record) (n : ℕ) → t .number ≡ 0 → t .at < length s → t .at < n → nextRecord s t ≡ goes t r n → P) → P
   by-call {P = P} f g h =
       cases (eqb (t .number) 0)
-      (λ z. cases (endAt s (t .at)) (λ e. ending (closes (t .sofar .last)) refl (at-close (eqb-true _ _ z) e))
-      (λ e. answering (eqb-true _ _ z) (line-inside e) (readParts joinsOf (t .sofar) (t .at) (fieldsAt s (t .at))) (at-line (eqb-true _ _ z) e)))
+      (λ z. cases (endAt s (t .at)) (λ e. ending (eqb-true _ _ z) e (closes (t .sofar .last)) refl (at-close (eqb-true _ _ z) e))
+      (λ e. answering (eqb-true _ _ z) (readParts joinsOf (t .sofar) (t .at) (fieldsAt s (t .at))) refl (at-line (eqb-true _ _ z) e)))
       (λ z. f _ (refused-before z))
     where
-      ending : (b : Bool) → closes (t .sofar .last) ≡ b → nextRecord s t ≡ closing t → P
-      ending true e k = g (k ∙ simp e)
-      ending false e k = f (refusal 32 (t .at)) (k ∙ simp e)
+      ending : t .number ≡ 0 → endAt s (t .at) ≡ true → (b : Bool) → closes (t .sofar .last) ≡ b → nextRecord s t ≡ closing t → P
+      ending z i true e k = g z i e (k ∙ simp e)
+      ending z i false e k = f (refusal 32 (t .at)) (k ∙ simp e)
 
-      answering : t .number ≡ 0 → t .at < length s → (a : Answer) → nextRecord s t ≡ on t a (t .at + length (join (fieldsAt s (t .at))) + 2) → P
-      answering z l (Took r) k = h r _ z l (omega arith) k
-      answering z l (Refused q) k = f q k
+      answering : t .number ≡ 0 → (a : Answer) → readParts joinsOf (t .sofar) (t .at) (fieldsAt s (t .at)) ≡ a →
+          nextRecord s t ≡ on t a (t .at + length (join (fieldsAt s (t .at))) + 2) → P
+      answering z (Took r) e k = h r _ z (took-inside s (t .at) joinsOf (t .sofar) r e) (omega arith) k
+      answering z (Refused q) e k = f q k
 
   -- a call that stays is answered so ever after
   pub rests : (n : ℕ) → nextRecord s t .state ≡ t → call n s t ≡ nextRecord s t .next
@@ -196,4 +190,4 @@ from-opening s =
     simp e
     (along (o .rest) [] (record { number = refl; place = o .from8; plain = o .plain; keeps = record { listed = nothing-kept 0; keeps = refl } })
     (ap (readLines 8 start []) (o .lines))))
-    (λ e. simp e (over (stopped (refusal (fileFault s .number) (fileFault s .place))) (simp e) refl))
+    (λ e. simp e (over (stopped (refusal (fileFault s .number) (fileFault s .place))) (simp (e, kept s (eqb-false _ _ e))) refl))

@@ -2,14 +2,16 @@
 -- Assumes nothing.
 use Prim.Native.Nat.{ℕ, zero, suc, _+_, _-_, _<_}
 use mathlib.Core.Path.{_≡_, refl, _∙_, sym, ap, subst}
+use mathlib.Core.Bool.{true}
 use mathlib.Core.List.{List, map}
 use native.Mathlib.Nat.{add-zero}
 use native.Mathlib.Omega.{arith}
 use borrow.Author.Tests.{eqb-false}
 use lib.Dec.{eqb}
-use lib.ListN.{length}
+use lib.ListN.{length, getD}
 use Rattle.cells.proofs.Split.{split}
 use Rattle.order.specs.Order.{Begins, Sheet}
+use Rattle.order.specs.Code.Next as Next
 use Rattle.record.specs.declared.Record.{Record}
 use Rattle.record.specs.declared.Refusal.{Refusal}
 use Rattle.record.specs.declared.Answer.{Answer}
@@ -29,6 +31,7 @@ use Rattle.reader.specs.declared.Step.{Step}
 use Rattle.reader.specs.declared.Gone.the-variants.{On, Refused, End as AtEnd}
 use Rattle.reader.specs.Code.Gone.{movesOn, gone, goneOf, goneBy}
 use Rattle.reader.specs.declared.Checked.the-variants.{Records, Refused as Not}
+use Rattle.reader.proofs.Lines.{end-there}
 use Rattle.reader.proofs.Order.{stand}
 use Rattle.reader.proofs.Along.{by-call, rests, Tells, by-rest, from-opening}
 
@@ -38,6 +41,13 @@ nextOf w = w .next
 abbrev stateOf : Step → State
 stateOf w = w .state
 
+-- Where the end is told.
+pub record Ends (s : List ℕ) (t : State) : Type 0 where
+  pub opened : t .number ≡ 0
+  pub inside : t .at < length s
+  pub is : getD s (t .at) 0 ≡ 0x1a
+  pub closes : Next.closes (t .sofar .last) ≡ true
+
 -- ---- one call
 module _ (s : List ℕ) (t : State) where
   -- a record is handed out only inside the file, by a reader that was not refused
@@ -45,13 +55,13 @@ module _ (s : List ℕ) (t : State) where
       ((n : ℕ) → t .number ≡ 0 → t .at < length s → t .at < n → nextRecord s t .state .at ≡ n → P) → P
   handed r h k =
       by-call s t (λ f e. absurd (let i = ap nextOf e in let z : _≡_ {A = ℕ} 0 1 = cc in omega arith))
-      (λ e. absurd (let i = ap nextOf e in let z : _≡_ {A = ℕ} 0 1 = cc in omega arith))
+      (λ y i c e. absurd (let i = ap nextOf e in let z : _≡_ {A = ℕ} 0 1 = cc in omega arith))
       (λ q n z l m e. k n z l m (ap (λ (w : Step). w .state .at) e))
 
   -- and any other answer leaves the state as it was
   stayed : ((r : Record) → nextRecord s t .next ≡ Hands r → ⊥) → nextRecord s t .state ≡ t
   stayed h =
-      by-call s t (λ f e. ap stateOf e) (λ e. ap stateOf e) (λ r n z l m e. absurd (h r (ap nextOf e)))
+      by-call s t (λ f e. ap stateOf e) (λ z i c e. ap stateOf e) (λ r n z l m e. absurd (h r (ap nextOf e)))
 
   -- Where a record is handed out, the reader was not refused,
   pub was-open : (r : Record) → nextRecord s t .next ≡ Hands r → t .number ≡ 0
@@ -64,6 +74,13 @@ module _ (s : List ℕ) (t : State) where
   -- and it goes on behind where it was: so no program hands out records for ever.
   pub moves : (r : Record) → nextRecord s t .next ≡ Hands r → t .at < nextRecord s t .state .at
   moves r h = handed r h (λ n z l m e. rw e m)
+
+  -- The end is told by a reader that was not refused, at the 1Ah of the file, after a record that a sheet may end with; in whatever state.
+  pub was-at-end : nextRecord s t .next ≡ End → Ends s t
+  was-at-end h =
+      by-call s t (λ f e. absurd (let i = ap nextOf e in let z : _≡_ {A = ℕ} 0 1 = cc in omega arith))
+      (λ z i c e. let w = end-there s (t .at) i in record { opened = z; inside = w .0; is = w .1; closes = c })
+      (λ r n z l m e. absurd (let i = ap nextOf e in let z : _≡_ {A = ℕ} 0 1 = cc in omega arith))
 
   -- A refusal leaves the state as it was,
   pub again-refused : (f : Refusal) → nextRecord s t .next ≡ Refuses f → nextRecord s t .state ≡ t

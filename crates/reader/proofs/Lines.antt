@@ -2,25 +2,35 @@
 -- Assumes nothing.
 use Prim.Native.Nat.{ℕ, _+_, _<_, _≤_}
 use mathlib.Core.Path.{_≡_, refl, _∙_, sym, ap}
-use mathlib.Core.Bool.{true, false}
+use mathlib.Core.Bool.{Bool, true, false}
 use mathlib.Core.List.{List, [], _∷_, _++_}
 use native.Mathlib.Nat.{add-zero, add-assoc}
 use native.Mathlib.Omega.{arith}
-use borrow.Author.Tests.{ne-eqb, leb-true, eqb-true, lt-ltb, le-leb}
-use lib.Dec.{leb, eqb}
+use borrow.Author.Tests.{ne-eqb, leb-true, eqb-true, ltb-true, ltb-false, lt-ltb, le-leb}
+use lib.Dec.{leb, ltb, eqb}
 use lib.ListN.{length, getD, take, drop, length-append, length-drop, take-append-drop}
-use lib.Seq.{append-snoc, drop-drop, drop-append-add, getD-drop}
+use lib.Seq.{append-snoc, drop-drop, drop-append-add, drop-length, getD-drop}
+use Rattle.cells.specs.Test.{first}
 use Rattle.cells.specs.Text.{bytes}
 use Rattle.cells.proofs.Alike.{and-left, and-right}
 use Rattle.cells.proofs.Back.{passed}
 use Rattle.cells.proofs.Same.{eqs-eq}
+use Rattle.cells.proofs.Split.{split as cases}
 use Rattle.line.specs.Frame.{plain, plainLine, plainLines, file, WellFramed, frameFault}
 use Rattle.line.specs.Fields.{push, split, line}
 use Rattle.line.proofs.Laws.{framed, line-before}
+use Rattle.number.specs.Number.{shortest, readNumber}
+use Rattle.supplement.specs.declared.Supplement.{Supplement}
+use Rattle.order.specs.Order.{some, header, directions, drug, records}
+use Rattle.order.specs.Code.Next.{follow}
+use Rattle.field.specs.declared.Sofar.{Sofar}
 use Rattle.row.specs.Row.{fieldsAt}
+use Rattle.record.specs.declared.Record.{Record}
+use Rattle.record.specs.declared.Answer.the-variants.{Took}
+use Rattle.record_line.specs.Line.{recordNumber, readFields, readParts}
 use Rattle.reader.specs.Open.{versionLine, fileFault}
 use Rattle.reader.specs.File.{linesOf}
-use Rattle.reader.specs.Reader.{endAt}
+use Rattle.reader.specs.Reader.{endAt, saidAgain}
 
 -- ---- the lines of a file
 pub plain-least : (b : ℕ) → plain b ≡ true → 0x20 ≤ b
@@ -89,6 +99,16 @@ opens s h =
     let w : WellFramed s = framed s .0 (eqb-true (frameFault s .number) 0 (b .0)) in
     from-framed s (w .lines) (w .some) (w .plain) (w .bytes) (eqs-eq (take 7 s) (bytes "JAHIS5" ++ (0x0d ∷ [])) (c .0))
 
+-- The tests of the whole file tell 20, 21 or 22, which a reader says again.
+pub kept : (s : List ℕ) → (fileFault s .number ≡ 0 → ⊥) → saidAgain (fileFault s .number) ≡ fileFault s .number
+unfolding fileFault first saidAgain
+kept s z =
+    cases (leb (length s) 16384)
+    (λ a. cases (eqb (frameFault s .number) 0)
+    (λ b. cases (versionLine s) (λ d. absurd (simp (a, b, d) at z refl)) (λ d. simp (a, b, d)))
+    (λ b. simp (a, b)))
+    (λ a. simp a)
+
 -- ---- the line at an offset
 head-of : (s : List ℕ) (at : ℕ) → getD s at 0 ≡ getD (drop at s) 0 0
 head-of s at = ap (λ (k : ℕ). getD s k 0) (sym (add-zero at)) ∙ sym (getD-drop at s 0 0)
@@ -124,9 +144,31 @@ module _ (s : List ℕ) (at : ℕ) where
       ∙ ap (drop (length l + 2)) e
       ∙ drop-append-add l (0x0d ∷ 0x0a ∷ file ls) 2
 
-  -- At the 1Ah the file ends.
+  -- outside the file no line has a number,
+  no-number : length s ≤ at → recordNumber (fieldsAt s at) ≡ 0
+  unfolding fieldsAt split line readNumber shortest
+  no-number h =
+      cases (leb at (length s))
+      (λ e. let m : at ≡ length s = omega (arith, h, leb-true at (length s) e) in
+      let d : drop at s ≡ [] = ap (λ (k : ℕ). drop k s) m ∙ drop-length s in
+      simp (e, d))
+      (λ e. simp e)
+
+  -- so a line that is taken begins inside it.
+  pub took-inside : (joins : Supplement → Bool) (c : Sofar) (r : Record) → readParts joins c at (fieldsAt s at) ≡ Took r → at < length s
+  unfolding readParts readFields follow some records header directions drug
+  took-inside joins c r h =
+      cases (ltb at (length s)) (λ e. ltb-true at (length s) e)
+      (λ e. absurd (let k = simp (no-number (ltb-false at (length s) e)) at h in let z : _≡_ {A = ℕ} 0 1 = cc in omega arith))
+
+  -- At the 1Ah the file ends,
   pub at-end : drop at s ≡ file [] → endAt s at ≡ true
   unfolding endAt file
   at-end e =
       let m : at < length s = omega (arith, length-drop at s, ap length e) in
       rw (lt-ltb at (length s) m, head-of s at, e)
+
+  -- and nowhere else.
+  pub end-there : endAt s at ≡ true → (at < length s) × (getD s at 0 ≡ 0x1a)
+  unfolding endAt
+  end-there e = (ltb-true at (length s) (and-left (ltb at (length s)) _ e), eqb-true (getD s at 0) 0x1a (and-right (ltb at (length s)) _ e))

@@ -1,9 +1,9 @@
 -- The reader: what opening a file and each call after it answer.
 -- Assumes nothing.
 use Prim.Native.Nat.{ℕ, zero, suc}
-use mathlib.Core.Bool.{Bool, true, cond}
+use mathlib.Core.Bool.{Bool, cond, _&&_}
 use mathlib.Core.List.{List, [], _∷_}
-use lib.Dec.{ltb, eqb}
+use lib.Dec.{ltb, leb, eqb}
 use lib.ListN.{length, getD}
 use Rattle.order.specs.Next.{closes}
 use Rattle.schedule.specs.Kept.{mayJoin}
@@ -27,13 +27,18 @@ opened number at = record { number = number; at = at; sofar = start }
 unfoldable pub openFile : List ℕ → State
 openFile s = cond (eqb (fileFault s .number) 0) (opened 0 8) (opened (fileFault s .number) (fileFault s .place))
 
--- The end's 1Ah stands at an offset, or nothing does.
+-- The end's 1Ah stands at an offset, inside the file.
 unfoldable pub endAt : List ℕ → ℕ → Bool
-endAt s at = cond (ltb at (length s)) (eqb (getD s at 0) 0x1a) true
+endAt s at = ltb at (length s) && eqb (getD s at 0) 0x1a
 
 -- "After a refusal it refuses the same again; after the end it says the end again": both leave the state as it was.
 abbrev pub refuses : State → ℕ → Step
 refuses t number = record { next = Refuses (refusal number (t .at)); state = t }
+
+-- What is refused again is 20, 21 or 22, which opening told. A state with any other number was given by no call: there nothing was opened, and
+-- "no records put just before this one would help" (24).
+unfoldable pub saidAgain : ℕ → ℕ
+saidAgain number = cond (leb 20 number && leb number 22) number 24
 
 -- "Also at the end": 32 at the 1Ah where a needed record is missing.
 abbrev pub closing : State → Step
@@ -51,7 +56,7 @@ nextRecord s t =
     (cond (endAt s (t .at)) (closing t)
     (on t (lineAt (mayJoin (t .sofar .month) (t .sofar .schedule)) (t .sofar) s (t .at) .answer)
     (lineAt (mayJoin (t .sofar .month) (t .sofar .schedule)) (t .sofar) s (t .at) .next)))
-    (refuses t (t .number))
+    (refuses t (saidAgain (t .number)))
 
 -- The answer of the call that has n calls before it, from a state on.
 unfoldable pub call : ℕ → List ℕ → State → Handed

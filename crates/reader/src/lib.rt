@@ -8,11 +8,11 @@ ghost use mathlib.Core.Path.{_≡_};
 ghost use Rattle.record_line.specs.Line.{refusal as refusalOf};
 ghost use Rattle.reader.specs.Open.{versionLine};
 ghost use Rattle.reader.specs.File.{checkFile};
-ghost use Rattle.reader.specs.Reader.{opened as openedOf, openFile, refuses, endAt, closing, on, nextRecord};
+ghost use Rattle.reader.specs.Reader.{opened as openedOf, openFile, refuses, endAt, saidAgain, closing, on, nextRecord};
 ghost use Rattle.reader.specs.Code.Gone.{movesOn, goneOf, goneBy};
 
-// Where the reader is in the file, and what the records before leave. A file that was refused on opening keeps its number here, and the offset
-// in `at`.
+// Where the reader is in the file, and what the records before leave. A file that was refused on opening keeps its number here (20, 21 or 22;
+// 0 where it is open), and the offset in `at`. Any other number is that of a reader that was never opened.
 pub struct State {
     pub number: u8,
     pub at: usize,
@@ -95,14 +95,24 @@ fn refused(t: State, number: u8) -> Step
     }
 }
 
-// Is the 1Ah, or nothing, at a place?
+// What a reader that is not open says: the refusal that it keeps; 24 where opening told none.
+fn said_again(number: u8) -> u8
+    ensures { λ r. ⌜ r ≡ saidAgain number ⌝ }
+{
+    if (20 <= number) & (number <= 22) {
+        return number;
+    }
+    24
+}
+
+// Is the 1Ah at a place? Outside the file nothing is.
 fn ends(s: &[u8], at: usize) -> bool
     ensures { λ r. ⌜ r ≡ endAt (now (s .entry)) at ⌝ }
 {
     if at < s.len() {
         return s[at] == 0x1a;
     }
-    true
+    false
 }
 
 // At the 1Ah: the end, or 32 where a record is missing.
@@ -144,7 +154,7 @@ pub fn next(s: &[u8], t: State) -> Step
 {
     let at = t.at;
     if t.number != 0 {
-        return refused(t, t.number);
+        return refused(t, said_again(t.number));
     }
     if ends(s, at) {
         return close(t);
@@ -186,7 +196,7 @@ fn pass(s: &[u8], t: State) -> Gone
 {
     let at = t.at;
     if t.number != 0 {
-        return Gone::Refused(told(t.number, at));
+        return Gone::Refused(told(said_again(t.number), at));
     }
     if !ends(s, at) {
         return went(record_line::pass(t.sofar, s, at));

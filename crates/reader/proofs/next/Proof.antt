@@ -2,19 +2,24 @@
 use mathlib.Core.Path.{ap, sym, _∙_}
 use borrow.Author.Tests.{eq-eqb, ne-eqb}
 use Rattle.record.specs.declared.Line.{Line}
-use Rattle.reader.specs.Reader.{nextRecord}
+use Rattle.reader.specs.Reader.{refuses, nextRecord}
 use Rattle.reader.specs.Code.Gone.{movesOn}
 use Rattle.reader.proofs.Laws.{line-on}
 use borrow.Author.Needs.{needs}
 use Rattle.reader.proofs.next.Statement.{statement}
 use Rattle.reader.proofs.next.Tie as tie
 
+said-again-requires : tie.Need-said-again-requires
+said-again-requires c κs = search needs
+
 refused-requires : tie.Need-refused-requires
 refused-requires c κs = search needs
 
 returns : tie.Need-returns
 unfolding nextRecord
-returns c = rw (ne-eqb _ _ (c .before .if1 .taken)) (c .refused .ensures)
+returns c =
+    let a = c .before .before .before .before .before .args in
+    rw (ne-eqb _ _ (c .before .before .if1 .taken)) (c .refused .ensures ∙ ap (refuses (a .t)) (c .before .said-again .ensures))
 
 ends-requires : tie.Need-ends-requires
 ends-requires c κs = search needs
@@ -43,6 +48,7 @@ pub next-spec : {M : Type 1} → statement M
 next-spec =
     tie.close
     (tie.spec
+    said-again-requires
     refused-requires
     returns
     ends-requires

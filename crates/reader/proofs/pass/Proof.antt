@@ -8,12 +8,15 @@ use borrow.Author.Needs.{needs}
 use Rattle.reader.proofs.pass.Statement.{statement}
 use Rattle.reader.proofs.pass.Tie as tie
 
+said-again-requires : tie.Need-said-again-requires
+said-again-requires c κs = search needs
+
 told-requires : tie.Need-told-requires
 told-requires c κs = search needs
 
 returns : tie.Need-returns
 unfolding nextRecord
-returns c = rw (ne-eqb _ _ (c .before .if1 .taken), c .told .ensures)
+returns c = rw (ne-eqb _ _ (c .before .before .if1 .taken), c .told .ensures, c .before .said-again .ensures)
 
 ends-requires : tie.Need-ends-requires
 ends-requires c κs = search needs
@@ -60,6 +63,7 @@ pub pass-spec : {M : Type 1} → statement M
 pass-spec =
     tie.close
     (tie.spec
+    said-again-requires
     told-requires
     returns
     ends-requires
