@@ -21,7 +21,7 @@ use Rattle.record_line.specs.Line.{recordNumber, readParts, lineAfter, lineAt}
 use Rattle.record.specs.declared.Record.{Record}
 use Rattle.record.specs.declared.Answer.{Answer}
 use Rattle.record.specs.declared.Answer.the-variants.{Took, Refused}
-use Rattle.reader.specs.Reader.{endAt, refuses, on, nextRecord}
+use Rattle.reader.specs.Reader.{endAt, saidAgain, refuses, on, nextRecord}
 use Rattle.reader.specs.declared.State.{State}
 use Rattle.reader.specs.declared.Handed.the-variants.{Record as Hands, End}
 use Rattle.reader.specs.declared.Step.{Step}
@@ -145,7 +145,7 @@ record-fits s t =
     either Hold (eqb (t .number) 0)
     (either Hold (endAt s (t .at)) (either Hold (closes (t .sofar .last)) ended (refused 32))
     (line-holds t _ _ (parts-fit _ (t .sofar) (t .at) _)))
-    (refused (t .number))
+    (refused (saidAgain (t .number)))
 
 -- a record that the reader hands out, laid out as numbers, is held as that record.
 pub record-held : (s : List ℕ) (t : State) (r : Record) → nextRecord s t .next ≡ Hands r → Plain.recordOf (recordNumbers r) ≡ r

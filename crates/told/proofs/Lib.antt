@@ -1,3 +1,4 @@
 pub mod States
 pub mod Fields
 pub mod Handed
+pub mod Numbers

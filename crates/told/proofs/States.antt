@@ -1,14 +1,17 @@
 -- What was laid out as numbers is held as what it was: a caller's arrays carry a state from call to call.
 -- Assumes nothing.
-use Prim.Native.Nat.{ℕ}
+use Prim.Native.Nat.{ℕ, _+_, _-_}
 use mathlib.Core.Path.{_≡_, refl}
 use mathlib.Core.Bool.{Bool, true, false}
 use mathlib.Core.List.{[], _∷_}
+use native.Mathlib.Omega.{arith}
 use mir.Val.{boolByte}
+use borrow.Author.Tests.{ne-eqb}
+use lib.Dec.{eqb}
 use Rattle.field.specs.declared.Sofar.{Sofar}
 use Rattle.reader.specs.declared.State.{State as Reader}
 use Rattle.plain.specs.Held.{flag, bit}
-use Rattle.told.specs.States.{sofarNumbers, sofarOf, readerNumbers, readerOf, FitsSofar}
+use Rattle.told.specs.States.{sofarNumbers, sofarOf, openOf, readerNumbers, readerOf, FitsSofar}
 use Rattle.plain.specs.Fits.{Within}
 use Rattle.plain.proofs.Laws.{at}
 
@@ -34,6 +37,14 @@ sofar-back {c} w a b = λ j.
       schedule = record { letter = at (w .bytes) 1 j; month = at (w .bytes) 2 j; last = at (w .bytes) 3 j; full = flagged (c .schedule .full) j };
     }
 
--- A reader's state.
+-- A reader's number,
+open-back : {n : ℕ} → Within 255 (n ∷ []) → openOf (n + 1) ≡ n
+unfolding openOf
+open-back {n} w =
+    let z : eqb (n + 1) 0 ≡ false = ne-eqb (n + 1) 0 (λ h. omega arith) in
+    let m : n + 1 - 1 ≡ n = omega arith in
+    rw (z, m) (at w 0)
+
+-- and its state.
 pub reader-back : {t : Reader} → Within 255 (t .number ∷ []) → FitsSofar (t .sofar) → readerOf (readerNumbers t) ≡ t
-reader-back {t} n w = λ j. record { number = at n 0 j; at = t .at; sofar = sofar-back w (t .at) (t .number) j }
+reader-back {t} n w = λ j. record { number = open-back n j; at = t .at; sofar = sofar-back w (t .at) (t .number + 1) j }

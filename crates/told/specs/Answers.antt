@@ -1,7 +1,9 @@
 -- Answers as numbers: what is returned, and what is left in a lent array; "a refusal returns only its numbers; lent bytes stay".
 -- Assumes nothing.
-use Prim.Native.Nat.{ℕ}
+use Prim.Native.Nat.{ℕ, _≤_, _<_}
+use mathlib.Core.Path.{_≡_}
 use mathlib.Core.List.{List, [], _∷_}
+use lib.ListN.{length, getD}
 use Rattle.cells.specs.Test.{refused}
 use Rattle.record.specs.declared.Refusal.{Refusal}
 use Rattle.reader.specs.declared.Checked.{Checked}
@@ -56,3 +58,10 @@ abbrev pub handedState : Handed → List ℕ → List ℕ → List ℕ
 handedState (Hands r) after before = after
 handedState (Refuses f) after before = before
 handedState End after before = before
+
+-- What a call of the reader may return of a file s, whatever the eleven numbers n of its state: 0; 255, where the file's 1Ah stands at the state's
+-- offset; or one of document 01's numbers for a file.
+pub data Returned (s n : List ℕ) : ℕ → Type 0 where
+  handed : Returned s n 0
+  ended : getD n 0 0 < length s → getD s (getD n 0 0) 0 ≡ 0x1a → Returned s n 255
+  refuses : {k : ℕ} → 20 ≤ k → k ≤ 32 → Returned s n k

@@ -1,7 +1,9 @@
--- The state of a reader as eleven numbers. The first is where it is, an offset in the file.
+-- The state of a reader as eleven numbers. The first is where it is, an offset in the file; the second is 1 where it is open.
 -- Assumes nothing.
-use Prim.Native.Nat.{ℕ}
+use Prim.Native.Nat.{ℕ, _+_, _-_}
+use mathlib.Core.Bool.{cond}
 use mathlib.Core.List.{List, [], _∷_}
+use lib.Dec.{eqb}
 use lib.ListN.{getD}
 use Rattle.schedule.specs.declared.Schedule.{Schedule}
 use Rattle.field.specs.declared.Sofar.{Sofar}
@@ -13,9 +15,10 @@ use Rattle.plain.specs.Held.{byte, half, flag, bit}
 abbrev pub sofarNumbers : Sofar → List ℕ
 sofarNumbers c = c .last ∷ c .month ∷ c .rp .0 ∷ c .drug .0 ∷ c .supplement .0 ∷ c .schedule .letter ∷ c .schedule .month ∷ c .schedule .last ∷ bit (c .schedule .full) ∷ []
 
--- A reader's: where it is, and the number of a file that was refused on opening.
+-- A reader's: where it is, and one more than the number of a file that was refused on opening. So 1 is a reader that is open, 21, 22 and 23 are
+-- one that was refused by 20, 21 or 22, and 0 is one that was never opened.
 abbrev pub readerNumbers : Reader → List ℕ
-readerNumbers t = t .at ∷ t .number ∷ sofarNumbers (t .sofar)
+readerNumbers t = t .at ∷ (t .number + 1) ∷ sofarNumbers (t .sofar)
 
 -- Back: the supplements of the RP,
 abbrev pub scheduleOf : List ℕ → Schedule
@@ -25,9 +28,13 @@ scheduleOf n = record { letter = byte (getD n 7 0); month = byte (getD n 8 0); l
 abbrev pub sofarOf : List ℕ → Sofar
 sofarOf n = record { last = half (getD n 2 0); month = byte (getD n 3 0); rp = record { 0 = half (getD n 4 0) }; drug = record { 0 = half (getD n 5 0) }; supplement = record { 0 = half (getD n 6 0) }; schedule = scheduleOf n }
 
+-- the reader's number, 24 where it was never opened,
+unfoldable pub openOf : ℕ → ℕ
+openOf n = cond (eqb n 0) 24 (byte (n - 1))
+
 -- and the reader.
 abbrev pub readerOf : List ℕ → Reader
-readerOf n = record { number = byte (getD n 1 0); at = getD n 0 0; sofar = sofarOf n }
+readerOf n = record { number = openOf (getD n 1 0); at = getD n 0 0; sofar = sofarOf n }
 
 -- What the records before leave fits the places that it is held in.
 pub record FitsSofar (c : Sofar) : Type 0 where

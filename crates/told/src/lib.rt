@@ -7,7 +7,7 @@ use reader::Checked;
 use record::Refusal;
 use schedule::Schedule;
 ghost use mathlib.Core.Path.{_≡_};
-ghost use Rattle.told.specs.States.{scheduleOf, sofarOf, readerNumbers, readerOf};
+ghost use Rattle.told.specs.States.{scheduleOf, sofarOf, openOf, readerNumbers, readerOf};
 ghost use Rattle.told.specs.Answers.{refusalNumbers, checkedNumber, checkedRecords, checkedRefusal};
 
 // ---- states
@@ -37,12 +37,25 @@ pub fn sofar(n: &[u64]) -> Sofar
     }
 }
 
+// The number of a reader whose second number this is: one less, as far as a byte has room; 24, which no opening tells, for 0.
+fn open_of(n: u64) -> u8
+    ensures { λ r. ⌜ r ≡ openOf n ⌝ }
+{
+    if n == 0 {
+        return 24;
+    }
+    if n < 256 {
+        return (n - 1) as u8;
+    }
+    255
+}
+
 // A reader's state of eleven numbers.
 pub fn reader_state(n: &[u64]) -> reader::State
     ensures { λ r. ⌜ r ≡ readerOf (now (n .entry)) ⌝ }
 {
     reader::State {
-        number: plain::byte_at(n, 1),
+        number: open_of(plain::at(n, 1)),
         at: plain::at(n, 0) as usize,
         sofar: sofar(n),
     }
@@ -56,7 +69,7 @@ pub fn reader_numbers(t: reader::State) -> [u64; 11]
     let s = c.schedule;
     [
         t.at as u64,
-        t.number as u64,
+        t.number as u64 + 1,
         c.last as u64,
         c.month as u64,
         c.rp.0 as u64,

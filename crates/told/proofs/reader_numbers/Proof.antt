@@ -11,8 +11,8 @@ use Rattle.told.proofs.reader_numbers.Tie as tie
 cast-t5 : tie.Need-cast-t5
 cast-t5 c = search needs
 
-cast-t6 : tie.Need-cast-t6
-cast-t6 c = search needs
+add-t6 : tie.Need-add-t6
+add-t6 c = search needs
 
 cast-t7 : tie.Need-cast-t7
 cast-t7 c = search needs
@@ -38,6 +38,9 @@ cast-t13 c = search needs
 cast-t14 : tie.Need-cast-t14
 cast-t14 c = search needs
 
+cast-t15 : tie.Need-cast-t15
+cast-t15 c = search needs
+
 returns : tie.Need-returns
 returns c =
     let t = c .before .before .before .before .before .before .before .before .before .before .before .before .args .t in
@@ -54,7 +57,7 @@ reader-numbers-spec =
     tie.close
     (tie.spec
     cast-t5
-    cast-t6
+    add-t6
     cast-t7
     cast-t8
     cast-t9
@@ -63,4 +66,5 @@ reader-numbers-spec =
     cast-t12
     cast-t13
     cast-t14
+    cast-t15
     returns)
