@@ -114,7 +114,7 @@ pub extern "C" fn yws_sheet_next(
 // Opens a buffer to write a sheet.
 #[no_mangle]
 pub extern "C" fn yws_writer_open(out: &mut [u8], state: &mut [u64; 11]) -> u8
-    ensures { λ r. ⌜ OpensBuffer (openBuffer (now (out .entry))) r (now (out .exit)) (now (state .exit)) ⌝ }
+    ensures { λ r. ⌜ OpensBuffer (openBuffer (now (out .entry))) (now (state .entry)) r (now (out .exit)) (now (state .exit)) ⌝ }
 {
     writer_calls::open(out, state)
 }

@@ -1,7 +1,7 @@
--- A record that was read is written again. The statements of the calls give each answer as a function of what is lent.
+-- A record that was read is written again; what a call returns is one of few numbers. The statements of the calls give each answer as a function of what is lent.
 -- Assumes nothing.
 use Prim.Native.Nat.{ℕ}
-use mathlib.Core.Path.{_≡_, _∙_, ap}
+use mathlib.Core.Path.{_≡_, _∙_, ap, sym, subst}
 use mathlib.Core.List.{List}
 use Rattle.record.specs.declared.Record.{Record}
 use Rattle.reader.specs.Reader.{nextRecord}
@@ -9,8 +9,10 @@ use Rattle.reader.specs.declared.State.{State}
 use Rattle.reader.specs.declared.Handed.{Handed}
 use Rattle.reader.specs.declared.Handed.the-variants.{Record as Hands}
 use Rattle.plain_record.specs.Records.{recordOf}
+use Rattle.told.specs.States.{readerOf}
+use Rattle.told.specs.Answers.{handedRecord, Returned}
 use Rattle.told.proofs.Handed.{record-held}
-use Rattle.told.specs.Answers.{handedRecord}
+use Rattle.told.proofs.Numbers as listed
 use Rattle.sheet_calls.specs.Calls.{Steps}
 
 -- A record that was handed out: its numbers, handed to the writer, are that record
@@ -18,3 +20,8 @@ pub record-again : (s state₀ numbers₀ refusal state numbers : List ℕ) (t :
     Steps (nextRecord s t) state₀ numbers₀ n refusal state numbers → recordOf numbers ≡ r
 record-again s state₀ numbers₀ refusal state numbers t r n h w =
     ap recordOf (w .leaves ∙ ap (λ (x : Handed). handedRecord x numbers₀) h) ∙ record-held s t r h
+
+-- Of every file and every array of eleven numbers, also one that no call gave: 0, 255 at the 1Ah, or one of document 01's numbers for a file.
+pub always-a-number : (s state₀ numbers₀ refusal state numbers : List ℕ) (n : ℕ) → Steps (nextRecord s (readerOf state₀)) state₀ numbers₀ n refusal state numbers →
+    Returned s state₀ n
+always-a-number s state₀ numbers₀ refusal state numbers n w = subst (Returned s state₀) (sym (w .returns)) (listed.always-a-number s state₀)

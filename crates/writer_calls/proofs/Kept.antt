@@ -8,7 +8,7 @@ use Rattle.writer.specs.Writer.{Left}
 use Rattle.writer.specs.declared.Told.{Told}
 use Rattle.writer_calls.specs.State.{writerNumbers, writerOf}
 use Rattle.plain.specs.Held.{unless0}
-use Rattle.writer_calls.specs.Calls.{Puts}
+use Rattle.writer_calls.specs.Calls.{OpensBuffer, Puts}
 
 -- One call of the writer: what it wrote, and the state after it,
 module _ (l : Left) (p : Told) (buffer : List ℕ) (e : record { put = p; buffer = buffer } ≡ l) (state₀ : List ℕ) where
@@ -35,3 +35,7 @@ module _ (l : Left) (p : Told) (buffer : List ℕ) (e : record { put = p; buffer
         moves = rw (← e, ne-eqb (p .number) 0 z);
         holds = λ y. absurd (z y);
       }
+
+  -- Opening is such a call that tells no number of the reader's.
+  pub opens : {n own : ℕ} {out state : List ℕ} → Puts l state₀ n own out state → OpensBuffer l state₀ n out state
+  opens w = record { returns = w .returns; writes = w .writes; moves = w .moves; holds = w .holds }

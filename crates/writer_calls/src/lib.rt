@@ -14,7 +14,7 @@ fn writer_state(n: &[u64]) -> writer::State
 {
     writer::State {
         at: plain::at(n, 0) as usize,
-        closed: plain::flag_at(n, 1),
+        closed: plain::at(n, 1) != 1,
         sofar: told::sofar(n),
     }
 }
@@ -27,7 +27,7 @@ fn writer_numbers(t: writer::State) -> [u64; 11]
     let s = c.schedule;
     [
         t.at as u64,
-        t.closed as u64,
+        !t.closed as u64,
         c.last as u64,
         c.month as u64,
         c.rp.0 as u64,
@@ -44,11 +44,13 @@ fn writer_numbers(t: writer::State) -> [u64; 11]
 
 // Opens a buffer to write a sheet.
 pub fn open(out: &mut [u8], state: &mut [u64; 11]) -> u8
-    ensures { λ r. ⌜ OpensBuffer (openBuffer (now (out .entry))) r (now (out .exit)) (now (state .exit)) ⌝ }
+    ensures { λ r. ⌜ OpensBuffer (openBuffer (now (out .entry))) (now (state .entry)) r (now (out .exit)) (now (state .exit)) ⌝ }
 {
     let opened = writer::open(out);
     let t = opened.state;
-    *state = writer_numbers(t);
+    if opened.number == 0 {
+        *state = writer_numbers(t);
+    }
     opened.number
 }
 

@@ -1,7 +1,5 @@
--- By the calls.
-use mathlib.Core.Path.{_∙_, ap}
-use Rattle.writer.specs.Writer.{Left}
-use Rattle.writer_calls.specs.State.{writerNumbers}
+-- By whether there was room.
+use Rattle.writer_calls.proofs.Kept.{puts-on, puts-refused, opens}
 use borrow.Author.Needs.{needs}
 use Rattle.writer_calls.proofs.open.Statement.{statement}
 use Rattle.writer_calls.proofs.open.Tie as tie
@@ -17,14 +15,19 @@ same-length c = search needs
 
 returns : tie.Need-returns
 returns c =
-    let e = c .before .before .before .before .«open» .ensures in
-    record {
-      returns = ap (λ (l : Left). l .put .number) e;
-      writes = ap (λ (l : Left). l .buffer) e;
-      leaves = c .writer-numbers .ensures .0 ∙ ap (λ (l : Left). writerNumbers (l .put .state)) e;
-      holds = c .writer-numbers .ensures .1 ∙ ap (λ (l : Left). l .put .state) e;
-    }
+    let a = c .before .before .before .before .before .before .before .before .before .args in
+    let w = c .before .before .before .before .before .before .«open» in
+    opens _ (w .result) _ (w .ensures) (a .state .now) (puts-on _ (w .result) _ (w .ensures) (a .state .now) (c .before .if1 .taken) _ (c .writer-numbers .ensures))
+
+same-length-2 : tie.Need-same-length-2
+same-length-2 c = search needs
+
+returns-2 : tie.Need-returns-2
+returns-2 c =
+    let a = c .before .before .before .before .before .before .before .before .args in
+    let w = c .before .before .before .before .before .«open» in
+    opens _ (w .result) _ (w .ensures) (a .state .now) (puts-refused _ (w .result) _ (w .ensures) (a .state .now) (c .if1 .left))
 
 pub open-spec : {M : Type 1} → statement M
 open-spec =
-    tie.close (tie.spec open-requires writer-numbers-requires same-length returns)
+    tie.close (tie.spec open-requires writer-numbers-requires same-length returns same-length-2 returns-2)

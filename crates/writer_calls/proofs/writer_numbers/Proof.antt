@@ -8,9 +8,6 @@ use borrow.Author.Needs.{needs}
 use Rattle.writer_calls.proofs.writer_numbers.Statement.{statement}
 use Rattle.writer_calls.proofs.writer_numbers.Tie as tie
 
-cast-t5 : tie.Need-cast-t5
-cast-t5 c = search needs
-
 cast-t6 : tie.Need-cast-t6
 cast-t6 c = search needs
 
@@ -38,6 +35,9 @@ cast-t13 c = search needs
 cast-t14 : tie.Need-cast-t14
 cast-t14 c = search needs
 
+cast-t15 : tie.Need-cast-t15
+cast-t15 c = search needs
+
 returns : tie.Need-returns
 returns c =
     let t = c .before .before .before .before .before .before .before .before .before .before .before .before .args .t in
@@ -53,7 +53,6 @@ pub writer-numbers-spec : {M : Type 1} → statement M
 writer-numbers-spec =
     tie.close
     (tie.spec
-    cast-t5
     cast-t6
     cast-t7
     cast-t8
@@ -63,4 +62,5 @@ writer-numbers-spec =
     cast-t12
     cast-t13
     cast-t14
+    cast-t15
     returns)
