@@ -9,7 +9,13 @@
  * length written in its brackets. What a function writes may not overlap anything else that it is lent. Bytes read need no 0 at their end.
  *
  * REFUSALS. A call that returns another number than 0 leaves all that it was lent as it was, except for what says where and why
- * (`place`, `refusal`, `own`), which is written by every call, with 0s where there is nothing to say.
+ * (`place`, `refusal`, `own`), which is written by every call, with 0s where there is nothing to say; and except for the `state` of
+ * yws_sheet_open, which keeps the refusal so that yws_sheet_next says it again.
+ *
+ * STATES. A reader's or a writer's state is the caller's, to keep or to copy. Begin it with zeros, which are a state that was never opened.
+ * state[0] is where it is. state[1] is 1 while it is open; 21, 22 or 23 for a reader whose opening returned 20, 21 or 22; any other number says
+ * that nothing is open: yws_sheet_next then returns YWS_ORDER, with state[0] in refusal[0], and yws_writer_put and yws_writer_close
+ * YWS_RECORD_REFUSED, with YWS_ORDER in *own. The other nine numbers are what the records before leave.
  *
  * NUMBERS HANDED IN may be anything; none is undefined behaviour. One that is too large for what it stands for makes a record or a code
  * that is refused.
@@ -161,11 +167,13 @@ uint8_t yws_set_write(uint8_t issue, const uint32_t days[YWS_DAYS], uint8_t *out
 uint8_t yws_sheet_check(const uint8_t *file, size_t length, uint64_t *records, uint64_t refusal[YWS_REFUSAL]);
 
 /* Begins to read a file: 0, or YWS_TOO_LONG, YWS_FRAME or YWS_VERSION. Writes `state` either way; yws_sheet_next then says the refusal again,
- * with its offset. `state` is the caller's to keep or to copy; state[0] is the offset of the next record. */
+ * with its offset. state[0] is the offset of the next record, or of the refusal. */
 uint8_t yws_sheet_open(const uint8_t *file, size_t length, uint64_t state[YWS_STATE]);
 
 /* The next record of the same, unchanged file: 0, and `record` and `state` written. YWS_END after the last; else the refusal. After the end or a
- * refusal `state` is as it was, so the next call says the same. `refusal` is 0s after 0 and YWS_END. The version line is no record. */
+ * refusal `state` is as it was, so the next call says the same. `refusal` is 0s after 0 and YWS_END. The version line is no record.
+ * Whatever stands in `state`, it returns 0, YWS_END or a number from 20 to 32, and YWS_END only where the file has its 1Ah at state[0]; at an
+ * offset outside the file there is no record (YWS_UNKNOWN). */
 uint8_t yws_sheet_next(const uint8_t *file, size_t length, uint64_t state[YWS_STATE], uint64_t record[YWS_RECORD], uint64_t refusal[YWS_REFUSAL]);
 
 /* ---- Sheets, written.
@@ -174,19 +182,20 @@ uint8_t yws_sheet_next(const uint8_t *file, size_t length, uint64_t state[YWS_ST
  * the calls `out`, `room` and `state` stay as they are.
  */
 
-/* Begins a file: the version line. Writes `state` either way; after YWS_ROOM it is that of a writer that is closed. */
+/* Begins a file: the version line, and `state` written; or YWS_ROOM. */
 uint8_t yws_writer_open(uint8_t *out, size_t room, uint64_t state[YWS_STATE]);
 
 /* Puts a record, laid out as yws_sheet_next has it, whose texts are offsets into the `length` bytes of `lent`: a file that was read, or a
  * buffer with the texts of one record. A text whose offsets are not inside `lent`, or fall, is one that no field takes (26, 27 for a site, 28
  * where none may stand). A number that may be empty is empty where it is 0; one that may not is then 27. Numbers after a record's last are not
  * looked at. A code whose first number is 0 is empty. YWS_RECORD_REFUSED, with the reader's number in *own (24
- * after closing), where the reader would refuse the record here; then YWS_ROOM exactly when the line with its CR LF and the closing 1Ah pass
+ * after closing and before opening), where the reader would refuse the record here; then YWS_ROOM exactly when the line with its CR LF and the closing 1Ah pass
  * `room` or YWS_FILE_MOST. *own is 0 but for YWS_RECORD_REFUSED. */
 uint8_t yws_writer_put(uint8_t *out, size_t room, uint64_t state[YWS_STATE], const uint64_t record[YWS_RECORD], const uint8_t *lent, size_t length,
                        uint64_t *own);
 
-/* Ends the file: the 1Ah, for which every record left room. Too early is YWS_RECORD_REFUSED with 32 in *own; a second time, with 24. */
+/* Ends the file: the 1Ah, for which every record left room. Too early is YWS_RECORD_REFUSED with 32 in *own; a second time, and
+ * before opening, with 24. */
 uint8_t yws_writer_close(uint8_t *out, size_t room, uint64_t state[YWS_STATE], uint64_t *own);
 
 /* ---- Dates. */
