@@ -34,7 +34,7 @@ static void refused(uint8_t number, const uint64_t refusal[YWS_REFUSAL]) {
 
 int main(void) {
     size_t length = fread(file, 1, sizeof file, stdin);
-    uint64_t records, refusal[YWS_REFUSAL], state[YWS_STATE], record[YWS_RECORD];
+    uint64_t records, refusal[YWS_REFUSAL], state[YWS_STATE] = {0}, record[YWS_RECORD];
     /* The whole sheet first: no label of a sheet that is refused further on. */
     uint8_t number = yws_sheet_check(file, length, &records, refusal);
     if (number != 0) {

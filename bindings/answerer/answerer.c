@@ -170,6 +170,19 @@ static void sheet_records(struct question q) {
     }
 }
 
+/* One call of the reader on a state that is handed in, whoever made it. */
+static void sheet_next(struct question q) {
+    uint64_t state[YWS_STATE], record[YWS_RECORD], refusal[YWS_REFUSAL];
+    for (int i = 0; i < YWS_STATE; i++) state[i] = take_number(&q, 8);
+    memset(record, UNTOUCHED, sizeof record);
+    memset(refusal, UNTOUCHED, sizeof refusal);
+    uint8_t number = yws_sheet_next(q.bytes, q.length, state, record, refusal);
+    say_byte(number);
+    say_numbers(refusal, YWS_REFUSAL);
+    say_numbers(record, YWS_RECORD);
+    say_numbers(state, number == 0 ? 1 : YWS_STATE);
+}
+
 /* A writer's room, its state and a copy of both, to see what a refusal left alone. */
 struct writer {
     uint8_t *out;
@@ -180,14 +193,20 @@ struct writer {
 
 static struct writer writer;
 
-static int writer_open(size_t room) {
+static void writer_lend(size_t room) {
     if (room > LENT_MOST) stop("too much room asked for");
     writer.out = out_end - room;
     writer.room = room;
     memset(writer.out, UNTOUCHED, room);
+}
+
+/* Where opening is refused, the calls after it are put to a state that no call gave. */
+static int writer_open(size_t room) {
+    writer_lend(room);
+    memset(writer.state, UNTOUCHED, sizeof writer.state);
     uint8_t number = yws_writer_open(writer.out, room, writer.state);
     say_byte(number);
-    if (number != 0) say_byte((unsigned) all_untouched(writer.out, room));
+    if (number != 0) say_byte(all_untouched(writer.out, room) && all_untouched((uint8_t *) writer.state, sizeof writer.state));
     return number == 0;
 }
 
@@ -216,15 +235,18 @@ static uint8_t writer_put(const uint64_t record[YWS_RECORD], const uint8_t *lent
     return number;
 }
 
+static void writer_close_once(void) {
+    uint64_t own;
+    memset(&own, UNTOUCHED, sizeof own);
+    writer_remember();
+    uint8_t number = yws_writer_close(writer.out, writer.room, writer.state, &own);
+    writer_say(number, own);
+}
+
 /* Closes, twice, and says the bytes written and whether those after them were left alone. */
 static void writer_close(int opened) {
-    for (int i = 0; i < 2; i++) {
-        uint64_t own;
-        memset(&own, UNTOUCHED, sizeof own);
-        writer_remember();
-        uint8_t number = yws_writer_close(writer.out, writer.room, writer.state, &own);
-        writer_say(number, own);
-    }
+    writer_close_once();
+    writer_close_once();
     if (!opened) return;
     size_t length = writer.state[0];
     if (length > writer.room) stop("the place is past the room");
@@ -257,6 +279,17 @@ static void puts_in_turn(struct question q) {
     writer_close(opened);
 }
 
+/* A record put, and the end, by a writer whose state is handed in, whoever made it; then the whole buffer. */
+static void put_and_close(struct question q) {
+    uint64_t record[YWS_RECORD];
+    writer_lend(take_number(&q, 4));
+    for (int i = 0; i < YWS_STATE; i++) writer.state[i] = take_number(&q, 8);
+    for (int i = 0; i < YWS_RECORD; i++) record[i] = take_number(&q, 8);
+    writer_put(record, q.bytes, q.length);
+    writer_close_once();
+    say(writer.out, writer.room);
+}
+
 int main(void) {
     static char to_read[1 << 16], to_write[1 << 16];
     setvbuf(stdin, to_read, _IOFBF, sizeof to_read);
@@ -284,6 +317,8 @@ int main(void) {
         case 'A': sheet_records(q); break;
         case 'W': sheet_rewrite(q); break;
         case 'P': puts_in_turn(q); break;
+        case 'N': sheet_next(q); break;
+        case 'K': put_and_close(q); break;
         default: stop("no such question");
         }
         uint8_t length[4];

@@ -86,7 +86,9 @@ static void sheet(const uint8_t *file, size_t length) {
     size_t room = length < YWS_FILE_MOST ? length : YWS_FILE_MOST;
     uint8_t *out = out_end - room;
     memset(out, UNTOUCHED, room);
+    memset(writer, 0, sizeof writer);
     uint8_t opened = yws_writer_open(out, room, writer);
+    hold(opened == 0 ? writer[1] == 1 : writer[0] == 0 && writer[1] == 0, "writer: its state after opening");
     yws_sheet_open(file, length, state);
     uint64_t read = 0;
     for (;;) {
@@ -119,6 +121,34 @@ static void sheet(const uint8_t *file, size_t length) {
     sheets_taken++;
 }
 
+/* Bytes of chance as a state that no call gave: a call on it returns one of few numbers, and a refusal leaves all as it was. */
+static void states(const uint8_t *file, size_t length) {
+    uint64_t made[YWS_STATE] = {0}, state[YWS_STATE], record[YWS_RECORD], refusal[YWS_REFUSAL], own;
+    for (size_t i = 0; i < 2 * YWS_STATE && i < length; i++) made[i / 2] = made[i / 2] << 8 | file[length - 1 - i];
+    for (uint64_t second = 0; second < 3; second++) {
+        if (second < 2) made[1] = second; /* none, one that is open, and then any */
+        memcpy(state, made, sizeof state);
+        uint8_t number = yws_sheet_next(file, length, state, record, refusal);
+        hold(number == 0 || number == YWS_END || (number >= 20 && number <= 32), "state: no such number");
+        hold(number == 0 || memcmp(state, made, sizeof state) == 0, "state: a refusal moved the reader");
+        hold(number != YWS_END || (made[1] == 1 && made[0] < length && file[made[0]] == 0x1a), "state: the end, and no 1Ah");
+        hold(made[1] != 0 || (number == YWS_ORDER && refusal[0] == made[0]), "state: read, yet never opened");
+        uint8_t *out = out_end - 300;
+        memset(out, UNTOUCHED, 300);
+        memcpy(state, made, sizeof state);
+        memset(record, 0, sizeof record);
+        record[0] = 1;
+        number = yws_writer_put(out, 300, state, record, file, length, &own);
+        hold(made[1] == 1 || (number == YWS_RECORD_REFUSED && own == YWS_ORDER), "state: put, yet not open");
+        hold(number == 0 || memcmp(state, made, sizeof state) == 0, "state: a refusal moved the writer");
+        hold(number == 0 || all_untouched(out, 300), "state: refused, yet written");
+        memcpy(state, made, sizeof state);
+        number = yws_writer_close(out, 300, state, &own);
+        hold(made[1] == 1 || (number == YWS_RECORD_REFUSED && own == YWS_ORDER), "state: closed, yet not open");
+        hold(number == 0 || memcmp(state, made, sizeof state) == 0, "state: a refusal closed the writer");
+    }
+}
+
 /* Numbers of chance as a code or a record: whatever is written must be read as the same. */
 static void numbers(const uint8_t *bytes, size_t length) {
     uint64_t n[YWS_RECORD] = {0}, back[YWS_RECORD], place;
@@ -149,6 +179,7 @@ int LLVMFuzzerTestOneInput(const uint8_t *data, size_t size) {
     tried = data;
     tried_length = size;
     sheet(file, size);
+    states(file, size);
     if (size <= 1024) {
         codes(file, size);
         numbers(file, size);

@@ -115,6 +115,8 @@ pub fn answer(question: &Question) -> Vec<u8> {
         b'A' => sheet_records(parts.0, &mut answer),
         b'W' => sheet_rewrite(parts, &mut answer),
         b'P' => puts_in_turn(parts, &mut answer),
+        b'N' => sheet_next(parts, &mut answer),
+        b'K' => put_and_close(parts, &mut answer),
         other => unreachable!("no question {other}"),
     }
     answer.0
@@ -207,6 +209,29 @@ fn sheet_records(file: &[u8], answer: &mut Answer) {
     answer.byte(1);
 }
 
+fn sheet_next(mut parts: Parts, answer: &mut Answer) {
+    let state = parts.numbers();
+    let file = parts.0;
+    let (reader, next) = model::next_of(file, &state);
+    let (number, refusal) = match &next {
+        Ok(Some(_)) => (0, [0; 4]),
+        Ok(None) => (END, [0; 4]),
+        Err(refused) => *refused,
+    };
+    answer.byte(number);
+    answer.numbers(&refusal);
+    match &next {
+        Ok(Some(record)) => {
+            answer.numbers(&model::record_numbers(file, record));
+            answer.numbers(&[reader.offset() as u64]);
+        }
+        _ => {
+            answer.numbers(&[UNTOUCHED_NUMBER; 31]);
+            answer.numbers(&state);
+        }
+    }
+}
+
 /// The number with what follows it; that a refusal left everything as it was.
 fn written(result: Result<u64, (u8, u64)>, answer: &mut Answer) {
     match result {
@@ -287,4 +312,24 @@ fn puts_in_turn(mut parts: Parts, answer: &mut Answer) {
         Some(model::record_of(&numbers, parts.take(length)))
     };
     writing(room, next, false, answer);
+}
+
+fn put_and_close(mut parts: Parts, answer: &mut Answer) {
+    let mut out = vec![UNTOUCHED; parts.number(4) as usize];
+    let state = parts.numbers();
+    let numbers = parts.numbers();
+    let record = model::record_of(&numbers, parts.0);
+    match model::writer_of(&mut out, &state) {
+        Some(mut writer) => {
+            let put = writer.put(&record).map(|()| writer.offset() as u64);
+            written(put.map_err(model::write_refusal), answer);
+            let closed = writer.close().map(|length| length as u64);
+            written(closed.map_err(model::write_refusal), answer);
+        }
+        None => {
+            written(Err((34, 24)), answer);
+            written(Err((34, 24)), answer);
+        }
+    }
+    answer.bytes(&out);
 }

@@ -9,6 +9,7 @@ mod codes;
 mod model;
 mod random;
 mod sheets;
+mod states;
 
 use std::fs;
 use std::io::{self, BufReader, BufWriter, Read, Write};
@@ -25,7 +26,7 @@ use random::Random;
 const SHOWN: usize = 5;
 
 /// What is asked about, with its seed and how many are drawn.
-const KINDS: [(&str, u64, usize); 7] = [
+const KINDS: [(&str, u64, usize); 8] = [
     ("usage codes", 101, 200_000),
     ("supplementary codes", 102, 200_000),
     ("runs", 103, 20_000),
@@ -33,6 +34,7 @@ const KINDS: [(&str, u64, usize); 7] = [
     ("dates", 0, 0),
     ("sheets", 105, 40_000),
     ("records put", 106, 12_000),
+    ("states that no call gave", 107, 20_000),
 ];
 
 /// Numbers that the questions of a kind must have been answered with, so that a generator which misses its aim is seen.
@@ -44,6 +46,8 @@ fn expected(kind: &str) -> &'static [u8] {
         "sets" => &[0, 10, 11, 33],
         "dates" => &[0, 27],
         "sheets" => &[0, 20, 21, 22, 23, 24, 25, 26, 27, 28, 29, 30, 31, 32],
+        // The end is none of them: it comes only after a drug.
+        "states that no call gave" => &[0, 20, 21, 22, 23, 24, 32, 33, 34],
         // 25 is no record's: each has its fields.
         _ => &[0, 23, 24, 26, 27, 28, 29, 30, 31, 32, 33],
     }
@@ -129,7 +133,8 @@ fn compare_kind(
             "sets" => codes::sets(&mut random, count, &mut ask),
             "dates" => codes::dates(&mut ask),
             "sheets" => sheets::sheets(&mut random, &sheets, count, &mut ask),
-            _ => sheets::puts(&mut random, &sheets, count, &mut ask),
+            "records put" => sheets::puts(&mut random, &sheets, count, &mut ask),
+            _ => states::states(&mut random, &sheets, count, &mut ask),
         }
     });
     let (mut tally, seen) = compare_answers(kind, &mut child, receive)?;

@@ -16,6 +16,8 @@ pub type SupplementNumbers = [u64; 22];
 pub type RecordNumbers = [u64; 31];
 /// Offset, field, the code's own number and place.
 pub type SheetRefusal = [u64; 4];
+/// The numbers of a reader's or a writer's state.
+pub type State = [u64; 11];
 
 /// No hour.
 const NO_HOUR: u64 = 24;
@@ -459,4 +461,24 @@ pub fn open(file: &[u8]) -> Result<Reader<'_>, (u8, SheetRefusal)> {
 /// `yws_writer_open`.
 pub fn open_writer(out: &mut [u8]) -> Result<Writer<'_>, (u8, u64)> {
     Writer::open(out).map_err(write_refusal)
+}
+
+/// `yws_sheet_next` on a state that no call gave. The header: "state[1] is 1 while it is open; 21, 22 or 23 for a reader whose opening returned 20,
+/// 21 or 22; any other number says that nothing is open". One that is open has only zeros after that here: no record stands before its place.
+pub fn next_of<'a>(file: &'a [u8], state: &State) -> (Reader<'a>, Result<Option<Record<'a>>, (u8, SheetRefusal)>) {
+    let mut reader = Reader::at(file, state[0] as usize);
+    let refused = |number| Err((number, [state[0], 0, 0, 0]));
+    let answer = match state[1] {
+        1 => reader.read().map_err(|r| sheet_refusal(&r)),
+        21 => refused(20),
+        22 => refused(21),
+        23 => refused(22),
+        _ => refused(24),
+    };
+    (reader, answer)
+}
+
+/// The writer of a state that no call gave; `None` where it is not open. As for `next_of`.
+pub fn writer_of<'b>(out: &'b mut [u8], state: &State) -> Option<Writer<'b>> {
+    (state[1] == 1).then(|| Writer::at(out, state[0] as usize))
 }

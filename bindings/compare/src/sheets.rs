@@ -438,7 +438,7 @@ fn filled(random: &mut Random, mut lines: Vec<Line>) -> Vec<u8> {
 }
 
 /// One sheet: drawn or from the corpus, whole or damaged.
-fn sheet(random: &mut Random, corpus: &[Vec<u8>]) -> Vec<u8> {
+pub fn sheet(random: &mut Random, corpus: &[Vec<u8>]) -> Vec<u8> {
     let mut lines = if random.once_in(4) { parted(random.of::<Vec<u8>>(corpus)) } else { grown(random) };
     for _ in 0..*random.of(&[0, 0, 0, 1, 1, 1, 1, 2, 3]) {
         damage_lines(random, &mut lines);

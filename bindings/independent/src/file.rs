@@ -81,6 +81,11 @@ impl<'a> Reader<'a> {
         }
     }
 
+    /// A reader at a place that no reading got to, perhaps outside the file, as if no record stood before it.
+    pub fn at(file: &'a [u8], at: usize) -> Self {
+        Reader { file, at, order: Order::new() }
+    }
+
     /// The place: the offset of the line that comes next.
     pub fn offset(&self) -> usize {
         self.at
@@ -89,7 +94,8 @@ impl<'a> Reader<'a> {
     /// The next record, or `None` at the end. "After a refusal it refuses the same again; after the
     /// end it says the end again": neither moves the reader.
     pub fn read(&mut self) -> Result<Option<Record<'a>>, FileRefusal> {
-        let rest = &self.file[self.at..];
+        // Outside the file there is no record, so no record number either.
+        let rest = self.file.get(self.at..).filter(|rest| !rest.is_empty()).ok_or(FileRefusal::new(23, self.at))?;
         if rest[0] == END {
             return match self.order.stage.is_whole() {
                 true => Ok(None),

@@ -42,6 +42,11 @@ impl<'b> Writer<'b> {
         Ok(writer)
     }
 
+    /// A writer at a place that no writing got to, perhaps outside the buffer, as if no record stood before it.
+    pub fn at(buffer: &'b mut [u8], at: usize) -> Self {
+        Writer { buffer, at, order: Order::new(), closed: false }
+    }
+
     /// Writes one record: "then 34, then 33".
     pub fn put(&mut self, record: &Record) -> Result<(), WriteRefusal> {
         if self.closed {
@@ -78,6 +83,11 @@ impl<'b> Writer<'b> {
         Ok(self.at)
     }
 
+    /// The place: how many bytes are written.
+    pub fn offset(&self) -> usize {
+        self.at
+    }
+
     /// The bytes written so far.
     pub fn written(&self) -> &[u8] {
         &self.buffer[..self.at]
@@ -86,8 +96,8 @@ impl<'b> Writer<'b> {
     /// One line with CR LF. 33 "exactly when the place plus the line with CR LF plus the closing
     /// 1Ah passes the buffer or 16,384".
     fn put_line(&mut self, length: usize, fill: impl Fn(&mut Line)) -> Result<(), WriteRefusal> {
-        let end = self.at + length + 2;
-        if end + 1 > self.buffer.len().min(LONGEST) {
+        let end = self.at.saturating_add(length + 2);
+        if end >= self.buffer.len().min(LONGEST) {
             return Err(WriteRefusal::NoRoom);
         }
         let mut line = Line { room: &mut self.buffer[self.at..end], at: 0 };

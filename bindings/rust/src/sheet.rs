@@ -44,7 +44,8 @@ pub fn check(file: &[u8]) -> Result<u64, SheetRefusal> {
     }
 }
 
-/// The records of a file, one by one: an iterator that ends after the last record or after a refusal.
+/// The records of a file, one by one: an iterator that ends after the last record or after a refusal. It is always opened: there is no way to
+/// make one with a state of the caller's own.
 #[derive(Clone, Debug)]
 pub struct Sheet<'a> {
     file: &'a [u8],
@@ -111,7 +112,7 @@ impl WriteRefusal {
     }
 }
 
-/// Writes a file into a buffer. [`LONGEST_FILE`] bytes are enough for any.
+/// Writes a file into a buffer. [`LONGEST_FILE`] bytes are enough for any. It is always opened, as a [`Sheet`] is.
 #[derive(Debug)]
 pub struct Writer<'b> {
     out: &'b mut [u8],
@@ -167,5 +168,82 @@ impl<'b> Writer<'b> {
     /// What has been written so far.
     pub fn written(&self) -> &[u8] {
         &self.out[..self.state[0] as usize]
+    }
+}
+
+// States that no call gave, which only a caller of the C functions can have.
+#[cfg(test)]
+mod states {
+    use crate::ffi;
+
+    const FILE: &[u8] = b"JAHIS5\r\n1,A\r\n\x1a";
+
+    /// What the next call on a state says, and that it leaves the state.
+    fn next(state: ffi::State) -> (u8, ffi::Refusal) {
+        let (mut after, mut record, mut refusal) = (state, [7; 31], [7; 4]);
+        // SAFETY: `FILE` is a slice of that length, the others are of the right lengths, and none overlaps another.
+        let number = unsafe { ffi::yws_sheet_next(FILE.as_ptr(), FILE.len(), &mut after, &mut record, &mut refusal) };
+        assert_eq!((after, record), (state, [7; 31]));
+        (number, refusal)
+    }
+
+    /// What a put and the close say of a writer's state, with the reader's number; and that they leave state and buffer.
+    fn put_and_close(state: ffi::State) -> [(u8, u64); 2] {
+        let (mut after, mut out, mut record, mut own) = (state, [b'!'; 99], [0; 31], [7; 2]);
+        record[0] = 1;
+        // SAFETY: `out` and `FILE` are slices of those lengths, the others are of the right lengths, and none overlaps another.
+        let numbers = unsafe {
+            [
+                ffi::yws_writer_put(out.as_mut_ptr(), 99, &mut after, &record, FILE.as_ptr(), FILE.len(), &mut own[0]),
+                ffi::yws_writer_close(out.as_mut_ptr(), 99, &mut after, &mut own[1]),
+            ]
+        };
+        assert_eq!((after, out), (state, [b'!'; 99]));
+        [(numbers[0], own[0]), (numbers[1], own[1])]
+    }
+
+    fn state(place: u64, second: u64) -> ffi::State {
+        let mut state = [0; 11];
+        state[0] = place;
+        state[1] = second;
+        state
+    }
+
+    #[test]
+    fn never_opened() {
+        for place in [0, 100] {
+            for second in [0, 2, 20, 24, 255, 256, 257, u64::MAX] {
+                assert_eq!(next(state(place, second)), (24, [place, 0, 0, 0]));
+                assert_eq!(put_and_close(state(place, second)), [(34, 24); 2]);
+            }
+        }
+    }
+
+    #[test]
+    fn refused_on_opening() {
+        for (second, number) in [(21, 20), (22, 21), (23, 22)] {
+            assert_eq!(next(state(5, second)), (number, [5, 0, 0, 0]));
+        }
+        let mut opened = [0; 11];
+        // SAFETY: the bytes and `opened` are of the right lengths and do not overlap.
+        let number = unsafe { ffi::yws_sheet_open(b"JAHIS5".as_ptr(), 6, &mut opened) };
+        assert_eq!((number, opened), (21, state(6, 22)));
+    }
+
+    #[test]
+    fn outside_the_file() {
+        for place in [14, 15, 16_384, u64::MAX] {
+            assert_eq!(next(state(place, 1)), (23, [place, 0, 0, 0]));
+        }
+        // At its 1Ah: the end only after a drug.
+        assert_eq!(next(state(13, 1)), (32, [13, 0, 0, 0]));
+    }
+
+    #[test]
+    fn no_room_leaves_the_state() {
+        let (mut after, mut out) = ([7; 11], [b'!'; 8]);
+        // SAFETY: `out` is a slice of that length, `after` of the right length, and they do not overlap.
+        let number = unsafe { ffi::yws_writer_open(out.as_mut_ptr(), 8, &mut after) };
+        assert_eq!((number, after, out), (33, [7; 11], [b'!'; 8]));
     }
 }
