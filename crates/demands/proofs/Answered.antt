@@ -14,7 +14,7 @@ use Rattle.usage.specs.Usage as usage
 use Rattle.usage.specs.declared.Instruction.{Instruction}
 use Rattle.usage.specs.declared.Reading.the-variants.{Taken, Refused as NotTaken}
 use Rattle.usage_writer.specs.Writes.{WritesUsage}
-use Rattle.usage_writer.specs.Code.Write as usageCode
+use Rattle.usage_writer.specs.Print as usageCode
 use Rattle.usage_writer.specs.declared.Written.{Written as WrittenUsage}
 use Rattle.usage_writer.proofs.Writing as usageWriter
 use Rattle.usage_writer.proofs.Laws as usageLaws

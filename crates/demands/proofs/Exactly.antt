@@ -17,7 +17,7 @@ use Rattle.line.specs.Fields.{split}
 use Rattle.line.proofs.Laws.{no-place, one-place, frame-cases, framed}
 use Rattle.supplement.specs.declared.Supplement.{Supplement}
 use Rattle.order.specs.Order.{Begins, Sheet, Verdict, lastOf}
-use Rattle.order.specs.Code.Next.{follow, closes}
+use Rattle.order.specs.Next.{follow, closes}
 use Rattle.order.proofs.Bools.{clash}
 use Rattle.order.proofs.Laws.{at-start, last-is, closing}
 use Rattle.order.proofs.Laws as order

@@ -18,8 +18,8 @@ use Rattle.usage.specs.declared.Instruction.{Instruction}
 use Rattle.supplement.specs.Supplement.{readSupplement}
 use Rattle.supplement.specs.declared.Supplement.{Supplement}
 use Rattle.order.specs.Order.{among, records}
-use Rattle.order.specs.Code.Next.{may, refusal as orderRefusal, follow, closes}
-use Rattle.schedule.specs.Code.Kept.{mayJoin}
+use Rattle.order.specs.Next.{may, refusal as orderRefusal, follow, closes}
+use Rattle.schedule.specs.Kept.{mayJoin}
 use Rattle.field.specs.Field.{present, fits, valued, ordered, numberOf, faultIn, codeFault, listed, wrong, right, refusedWith, readField}
 use Rattle.field.specs.declared.Rule.{Rule}
 use Rattle.field.specs.declared.Sofar.{Sofar}

@@ -17,7 +17,7 @@ use Rattle.line.proofs.Laws.{frame-cases}
 use Rattle.supplement.specs.declared.Supplement.{Supplement}
 use Rattle.order.specs.Order.{Begins, Sheet, Verdict, well, lastOf}
 use Rattle.order.specs.Order as order
-use Rattle.order.specs.Code.Next.{follow, closes}
+use Rattle.order.specs.Next.{follow, closes}
 use Rattle.order.proofs.Bools.{clash}
 use Rattle.order.proofs.Laws.{at-start, last-is, closing, judged, stands}
 use Rattle.field.specs.declared.Sofar.{Sofar}

@@ -10,8 +10,8 @@ use lib.Dec.{leb}
 use lib.ListN.{length, length-append}
 use Rattle.cells.specs.Text.{bytes}
 use Rattle.cells.proofs.Split.{split}
-use Rattle.order.specs.Code.Next.{closes}
-use Rattle.schedule.specs.Code.Kept.{mayJoin}
+use Rattle.order.specs.Next.{closes}
+use Rattle.schedule.specs.Kept.{mayJoin}
 use Rattle.field.specs.declared.Sofar.{Sofar}
 use Rattle.record.specs.Record.{start, after}
 use Rattle.record.specs.declared.Record.{Record}

@@ -22,7 +22,7 @@ use Rattle.line.proofs.Laws.{framed, line-before}
 use Rattle.number.specs.Number.{shortest, readNumber}
 use Rattle.supplement.specs.declared.Supplement.{Supplement}
 use Rattle.order.specs.Order.{some, header, directions, drug, records}
-use Rattle.order.specs.Code.Next.{follow}
+use Rattle.order.specs.Next.{follow}
 use Rattle.field.specs.declared.Sofar.{Sofar}
 use Rattle.row.specs.Row.{fieldsAt}
 use Rattle.record.specs.declared.Record.{Record}

@@ -13,8 +13,8 @@ use Rattle.cells.specs.declared.Fault.{Fault}
 use Rattle.cells.proofs.Alike.{and-left, and-right}
 use Rattle.supplement.specs.declared.Supplement.{Supplement}
 use Rattle.order.specs.Order.{among, records}
-use Rattle.order.specs.Code.Next.{may, refusal as orderRefusal, follow, closes}
-use Rattle.schedule.specs.Code.Kept.{mayJoin}
+use Rattle.order.specs.Next.{may, refusal as orderRefusal, follow, closes}
+use Rattle.schedule.specs.Kept.{mayJoin}
 use Rattle.field.specs.Field.{present, fits, valued, ordered, numberOf, codeFault, listed, wrong, readField}
 use Rattle.field.specs.declared.Rule.{Rule}
 use Rattle.field.specs.declared.Sofar.{Sofar}
