@@ -11,7 +11,7 @@ use lib.Dec.{eqb}
 use lib.ListN.{length, getD}
 use Rattle.cells.proofs.Split.{split}
 use Rattle.order.specs.Order.{Begins, Sheet}
-use Rattle.order.specs.Code.Next as Next
+use Rattle.order.specs.Next as Next
 use Rattle.record.specs.declared.Record.{Record}
 use Rattle.record.specs.declared.Refusal.{Refusal}
 use Rattle.record.specs.declared.Answer.{Answer}
