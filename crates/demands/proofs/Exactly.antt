@@ -43,8 +43,8 @@ use Rattle.reader.proofs.Laws as reader
 use Rattle.reader.proofs.Order.{leaves-number}
 use Rattle.demands.specs.Numbers.{FieldNumber, need, text, value, atField}
 use Rattle.demands.specs.Numbers as numbers
-use Rattle.demands.specs.Taken.{fieldsIn}
-use Rattle.demands.specs.Refused.{startAfter, leaving, supplied, mayJoin, Reaches, here, next, CodeRefused, usage, supplement, numberOn, WrongLine, unknown, hopeless, missing, field, code, Opens, FileRefusal, tooLong, frame, version}
+use Rattle.demands.specs.Taken.{fieldsIn, joinsAfter}
+use Rattle.demands.specs.Refused.{startAfter, leaving, supplied, Reaches, here, next, CodeRefused, usage, supplement, numberOn, WrongLine, unknown, hopeless, missing, field, code, Opens, FileRefusal, tooLong, frame, version}
 use Rattle.demands.specs.Refused as refused
 use Rattle.demands.proofs.Files.{same-number, not-wrong}
 use Rattle.demands.proofs.Calls.{told-end, told-refused}
@@ -97,38 +97,38 @@ module _ (before : List ℕ) (c : Sofar) (xs : List Supplement) (at : ℕ) (l : 
   follows n v = ap (λ (q : ℕ). follow q (numberOn l)) e ∙ order.told before (numberOn l) n b .1 v
 
   -- by its number,
-  told-order : (n : ℕ) → Verdict before (numberOn l) n → (n ≡ 0 → ⊥) → readParts (mayJoin c xs) c at (split l) ≡ Refused (refusal n at)
+  told-order : (n : ℕ) → Verdict before (numberOn l) n → (n ≡ 0 → ⊥) → readParts (joinsAfter c xs) c at (split l) ≡ Refused (refusal n at)
   unfolding readParts readFields
   told-order n v z =
       let k = follows n v in
       simp (ne-eqb (follow (c .last) (numberOn l)) 0 (λ y. z (sym k ∙ y))) (ap (λ (m : ℕ). Refused (refusal m at)) k)
 
   -- by how many fields it has,
-  told-count : Verdict before (numberOn l) 0 → counted (numberOn l) (fieldsIn l) ≡ false → readParts (mayJoin c xs) c at (split l) ≡ Refused (refusal 25 at)
+  told-count : Verdict before (numberOn l) 0 → counted (numberOn l) (fieldsIn l) ≡ false → readParts (joinsAfter c xs) c at (split l) ≡ Refused (refusal 25 at)
   unfolding readParts readFields readRow
   told-count v a = simp (eq-eqb _ _ (follows 0 v), a)
 
   -- or by the first wrong one
   told-field : Verdict before (numberOn l) 0 → counted (numberOn l) (fieldsIn l) ≡ true → (k : ℕ) (r : Rule) (f : List ℕ) →
-      Reaches (mayJoin c xs) c 1 (rules (numberOn l) (fieldsIn l)) (fieldsIn l) k r f → (n : ℕ) (own : Fault) → readField (mayJoin c xs) c r f ≡ refusedWith n own →
-      (n ≡ 0 → ⊥) → readParts (mayJoin c xs) c at (split l) ≡ Refused (atField n at k (own .number) (own .place))
+      Reaches (joinsAfter c xs) c 1 (rules (numberOn l) (fieldsIn l)) (fieldsIn l) k r f → (n : ℕ) (own : Fault) → readField (joinsAfter c xs) c r f ≡ refusedWith n own →
+      (n ≡ 0 → ⊥) → readParts (joinsAfter c xs) c at (split l) ≡ Refused (atField n at k (own .number) (own .place))
   unfolding readParts readFields
   told-field v a k r f h n own q z =
-      let y : readField (mayJoin c xs) c r f .number ≡ n = ap (λ (w : Field). w .number) q in
+      let y : readField (joinsAfter c xs) c r f .number ≡ n = ap (λ (w : Field). w .number) q in
       let from : ℕ = at + length (getD (split l) 0 []) + 1 in
-      let w : readRow (mayJoin c xs) c (numberOn l) from (fieldsIn l) ≡ refusedAt k (refusedWith n own) =
-      row-read (mayJoin c xs) c (numberOn l) from (fieldsIn l) k r f a h (λ i. z (sym y ∙ i)) ∙ ap (refusedAt k) q in
+      let w : readRow (joinsAfter c xs) c (numberOn l) from (fieldsIn l) ≡ refusedAt k (refusedWith n own) =
+      row-read (joinsAfter c xs) c (numberOn l) from (fieldsIn l) k r f a h (λ i. z (sym y ∙ i)) ∙ ap (refusedAt k) q in
       simp (eq-eqb _ _ (follows 0 v), w, ne-eqb n 0 z)
 
-  line-told : (f : Refusal) → WrongLine before c xs at l f → readParts (mayJoin c xs) c at (split l) ≡ Refused f
+  line-told : (f : Refusal) → WrongLine before c xs at l f → readParts (joinsAfter c xs) c at (split l) ≡ Refused f
   line-told f (unknown v) = told-order 23 v (λ z. omega arith)
   line-told f (hopeless v) = told-order 24 v (λ z. omega arith)
   line-told f (missing v) = told-order 32 v (λ z. omega arith)
   line-told f (refused.WrongLine.count v a) = told-count v a
   line-told f (field {n = n} {k = k} {r = r} {f = g} h i w) =
-      told-field (h .stands) (h .count) k r g (h .reaches) n (fault 0 0) (field-told (mayJoin c xs) c r g n i w) (some-number n i)
+      told-field (h .stands) (h .count) k r g (h .reaches) n (fault 0 0) (field-told (joinsAfter c xs) c r g n i w) (some-number n i)
   line-told f (code {n = n} {p = p} {k = k} {r = r} {f = g} h w i) =
-      told-field (h .stands) (h .count) k r g (h .reaches) 29 (fault n p) (code-told (mayJoin c xs) c r g n p w i) (λ z. omega arith)
+      told-field (h .stands) (h .count) k r g (h .reaches) 29 (fault n p) (code-told (joinsAfter c xs) c r g n p w i) (λ z. omega arith)
 
 -- ---- lines
 -- the others, where the first is taken
@@ -158,7 +158,7 @@ on-told : (at : ℕ) (c : Sofar) (xs : List Supplement) (before : List ℕ) (l :
     (f : Refusal) (rest : Record → File) →
     ((r : Record) → Begins (before ++ (numberOf r ∷ [])) →
     Stops (at + length l + 2) (after c r) (supplements xs r) (before ++ (numberOf r ∷ [])) ls (rest r .records) f → rest r .ending ≡ stopped f) →
-    (a : Answer) → readParts (mayJoin c xs) c at (split l) ≡ a → Stops at c xs before (l ∷ ls) (on a rest .records) f → on a rest .ending ≡ stopped f
+    (a : Answer) → readParts (joinsAfter c xs) c at (split l) ≡ a → Stops at c xs before (l ∷ ls) (on a rest .records) f → on a rest .ending ≡ stopped f
 on-told at c xs before l ls b e f rest more (Took r) h w =
     more r (taken-stands before c xs at l b e r h) (of-others at c xs before l ls r (rest r .records) f w)
 on-told at c xs before l ls b e f rest more (Refused g) h w =
@@ -175,7 +175,7 @@ lines-told f (l ∷ ls) at c xs before b e w =
     on-told at c xs before l ls b e f (λ r. readLines (at + length l + 2) (after c r) (supplements xs r) ls)
     (λ r k v. lines-told f ls (at + length l + 2) (after c r) (supplements xs r) (before ++ (numberOf r ∷ [])) k
     (leaves-number c r ∙ sym (last-is 0 (numberOf r) before)) v)
-    (readParts (mayJoin c xs) c at (split l)) refl w
+    (readParts (joinsAfter c xs) c at (split l)) refl w
 
 -- ---- the file
 module _ (s : List ℕ) where

@@ -17,7 +17,6 @@ use Rattle.supplement.specs.declared.Supplement.{Supplement}
 use Rattle.order.specs.Order.{Begins, Sheet, lastOf}
 use Rattle.order.specs.Next.{follow, closes}
 use Rattle.order.proofs.Laws.{at-start, last-is, closing, stands}
-use Rattle.schedule.specs.Schedule.{list}
 use Rattle.field.specs.Field.{wrong, readField}
 use Rattle.field.specs.declared.Rule.{Rule}
 use Rattle.field.specs.declared.Sofar.{Sofar}
@@ -37,7 +36,7 @@ use Rattle.reader.proofs.Lines.{opens}
 use Rattle.reader.proofs.Order.{its-number, leaves-number}
 use Rattle.held.proofs.File.{never-whole}
 use Rattle.writer.proofs.Laws.{not-long, lines-read}
-use Rattle.demands.specs.Taken.{Passes, fieldTests, FieldsPass, RightFields, fieldsIn, RightLine, RightLines, TakenFile}
+use Rattle.demands.specs.Taken.{Passes, fieldTests, FieldsPass, RightFields, fieldsIn, joinsAfter, RightLine, RightLines, TakenFile}
 use Rattle.demands.proofs.Codes.{All, none-at-fault, all-passed}
 
 -- ---- fields
@@ -103,31 +102,28 @@ abbrev fromIn : ℕ → List ℕ → ℕ
 fromIn at l = at + length (getD (split l) 0 []) + 1
 
 module _ (c : Sofar) (xs : List Supplement) (at : ℕ) (l : List ℕ) where
-  abbrev joinsOf : Supplement → Bool
-  joinsOf x = list (c .month) (xs ++ (x ∷ []))
-
-  line-right : (r : Record) → readParts joinsOf c at (split l) ≡ Took r → RightLine c xs at l r
+  line-right : (r : Record) → readParts (joinsAfter c xs) c at (split l) ≡ Took r → RightLine c xs at l r
   unfolding readParts readFields
   line-right r h =
       cases (eqb (follow (c .last) (recordNumber (split l))) 0)
-      (λ a. cases (eqb (readRow joinsOf c (recordNumber (split l)) (fromIn at l) (fieldsIn l) .number) 0)
+      (λ a. cases (eqb (readRow (joinsAfter c xs) c (recordNumber (split l)) (fromIn at l) (fieldsIn l) .number) 0)
       (λ b.
       let k : Took (recordOf (recordNumber (split l)) (fromIn at l) (fieldsIn l)) ≡ Took r = simp (a, b) at h in
-      record { fields = row-right joinsOf c (recordNumber (split l)) (fromIn at l) (fieldsIn l) .0 (eqb-true _ _ b); is = cc })
+      record { fields = row-right (joinsAfter c xs) c (recordNumber (split l)) (fromIn at l) (fieldsIn l) .0 (eqb-true _ _ b); is = cc })
       (λ b. absurd (let k = simp (a, b) at h in let z : _≡_ {A = ℕ} 0 1 = cc in omega arith)))
       (λ a. absurd (let k = simp a at h in let z : _≡_ {A = ℕ} 0 1 = cc in omega arith))
 
-  line-taken : (r : Record) → follow (c .last) (recordNumber (split l)) ≡ 0 → RightLine c xs at l r → readParts joinsOf c at (split l) ≡ Took r
+  line-taken : (r : Record) → follow (c .last) (recordNumber (split l)) ≡ 0 → RightLine c xs at l r → readParts (joinsAfter c xs) c at (split l) ≡ Took r
   unfolding readParts readFields
   line-taken r e t =
-      let w : readRow joinsOf c (recordNumber (split l)) (fromIn at l) (fieldsIn l) .number ≡ 0 =
-      row-right joinsOf c (recordNumber (split l)) (fromIn at l) (fieldsIn l) .1 (t .fields) in
+      let w : readRow (joinsAfter c xs) c (recordNumber (split l)) (fromIn at l) (fieldsIn l) .number ≡ 0 =
+      row-right (joinsAfter c xs) c (recordNumber (split l)) (fromIn at l) (fieldsIn l) .1 (t .fields) in
       simp (eq-eqb _ _ e, eq-eqb _ _ w) (ap Took (t .is))
 
 -- ---- lines
 on-right : (c : Sofar) (xs : List Supplement) (at : ℕ) (l : List ℕ) (ls : List (List ℕ)) (rest : Record → File) →
     ((r : Record) → rest r .ending ≡ whole → RightLines (at + length l + 2) (after c r) (supplements xs r) ls (rest r .records)) →
-    (a : Answer) → readParts (joinsOf c xs at l) c at (split l) ≡ a → on a rest .ending ≡ whole → RightLines at c xs (l ∷ ls) (on a rest .records)
+    (a : Answer) → readParts (joinsAfter c xs) c at (split l) ≡ a → on a rest .ending ≡ whole → RightLines at c xs (l ∷ ls) (on a rest .records)
 on-right c xs at l ls rest more (Took r) e w = (line-right c xs at l r e, more r w)
 on-right c xs at l ls rest more (Refused f) e w = never-whole w
 
@@ -137,7 +133,7 @@ unfolding readLines
 lines-right [] at c xs w = cases (closes (c .last)) (λ a. simp a tt) (λ a. simp a tt)
 lines-right (l ∷ ls) at c xs w =
     on-right c xs at l ls (λ r. readLines (at + length l + 2) (after c r) (supplements xs r) ls)
-    (λ r v. lines-right ls (at + length l + 2) (after c r) (supplements xs r) v) (readParts (joinsOf c xs at l) c at (split l)) refl w
+    (λ r v. lines-right ls (at + length l + 2) (after c r) (supplements xs r) v) (readParts (joinsAfter c xs) c at (split l)) refl w
 
 lines-taken : (ls : List (List ℕ)) (rs : List Record) (earlier : List ℕ) (at : ℕ) (c : Sofar) (xs : List Supplement) → Begins earlier →
     c .last ≡ lastOf 0 earlier → RightLines at c xs ls rs → Sheet (earlier ++ map numberOf rs) → readLines at c xs ls ≡ taken rs

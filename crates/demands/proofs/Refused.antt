@@ -33,7 +33,8 @@ use Rattle.reader.proofs.Lines.{opens, lines-of, after-line}
 use Rattle.reader.proofs.Order.{its-number, leaves-number}
 use Rattle.held.proofs.Taken.{taken}
 use Rattle.writer.proofs.Laws.{not-long}
-use Rattle.demands.specs.Refused.{startAfter, leaving, supplied, mayJoin, numberOn, WrongLine, unknown, hopeless, missing, field, code, Opens, FileRefusal, tooLong, frame, version}
+use Rattle.demands.specs.Taken.{joinsAfter}
+use Rattle.demands.specs.Refused.{startAfter, leaving, supplied, numberOn, WrongLine, unknown, hopeless, missing, field, code, Opens, FileRefusal, tooLong, frame, version}
 use Rattle.demands.specs.Refused as refused
 use Rattle.demands.proofs.Refusals.{by-parts}
 
@@ -53,18 +54,18 @@ module _ (before : List ℕ) (c : Sofar) (xs : List Supplement) (at : ℕ) (l : 
   of-verdict n (order.Verdict.missing a h) z = missing (order.Verdict.missing a h)
 
   -- a line that is refused
-  line-wrong : (f : Refusal) → readParts (mayJoin c xs) c at (split l) ≡ Refused f → WrongLine before c xs at l f
+  line-wrong : (f : Refusal) → readParts (joinsAfter c xs) c at (split l) ≡ Refused f → WrongLine before c xs at l f
   line-wrong =
-      by-parts (WrongLine before c xs at l) (mayJoin c xs) c at (split l) (λ z. of-verdict _ verdict z) (λ y a. refused.WrongLine.count (well-there y) a)
+      by-parts (WrongLine before c xs at l) (joinsAfter c xs) c at (split l) (λ z. of-verdict _ verdict z) (λ y a. refused.WrongLine.count (well-there y) a)
       (λ n k r f y a h i w. field (record { stands = well-there y; count = a; reaches = h }) i w)
       (λ n p k r f y a h w i. code (record { stands = well-there y; count = a; reaches = h }) w i)
 
   -- the record of one that is taken stands well
-  pub taken-stands : (r : Record) → readParts (mayJoin c xs) c at (split l) ≡ Took r → Begins (before ++ (numberOf r ∷ []))
+  pub taken-stands : (r : Record) → readParts (joinsAfter c xs) c at (split l) ≡ Took r → Begins (before ++ (numberOf r ∷ []))
   unfolding readParts
   taken-stands r h =
       let from : ℕ = at + length (getD (split l) 0 []) + 1 in
-      let t = taken (mayJoin c xs) c at (numberOn l) from (drop 1 (split l)) r h in
+      let t = taken (joinsAfter c xs) c at (numberOn l) from (drop 1 (split l)) r h in
       let n : numberOf r ≡ numberOn l = ap numberOf (sym (t .is)) ∙ its-number (numberOn l) from (drop 1 (split l)) in
       stands before (numberOf r) b .0 (ap (λ (q : ℕ). follow q (numberOf r)) (sym e) ∙ ap (follow (c .last)) n ∙ t .follows)
 
@@ -91,7 +92,7 @@ module _ (at : ℕ) (c : Sofar) (xs : List Supplement) (before : List ℕ) (l : 
   by-line : Begins before → c .last ≡ lastOf 0 before → (f : Refusal) (rest : Record → File) →
       ((r : Record) → Begins (before ++ (numberOf r ∷ [])) → rest r .ending ≡ stopped f →
       Stops (at + length l + 2) (after c r) (supplements xs r) (before ++ (numberOf r ∷ [])) ls (rest r .records) f) →
-      (a : Answer) → readParts (mayJoin c xs) c at (split l) ≡ a → on a rest .ending ≡ stopped f → Stops at c xs before (l ∷ ls) (on a rest .records) f
+      (a : Answer) → readParts (joinsAfter c xs) c at (split l) ≡ a → on a rest .ending ≡ stopped f → Stops at c xs before (l ∷ ls) (on a rest .records) f
   by-line b e f rest more (Took r) h w = later r (rest r .records) f (more r (taken-stands before c xs at l b e r h) w)
   by-line b e f rest more (Refused g) h w =
       let q : g ≡ f = cc in
@@ -113,7 +114,7 @@ by-lines f (l ∷ ls) at c xs before b e h =
     by-line at c xs before l ls b e f (λ r. readLines (at + length l + 2) (after c r) (supplements xs r) ls)
     (λ r k w. by-lines f ls (at + length l + 2) (after c r) (supplements xs r) (before ++ (numberOf r ∷ [])) k
     (leaves-number c r ∙ sym (last-is 0 (numberOf r) before)) w)
-    (readParts (mayJoin c xs) c at (split l)) refl h
+    (readParts (joinsAfter c xs) c at (split l)) refl h
 
 -- ---- the file
 module _ (s : List ℕ) where

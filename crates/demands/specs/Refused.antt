@@ -4,7 +4,7 @@
 use Prim.Native.Nat.{ℕ, zero, suc, _+_, _≤_, _<_}
 use mathlib.Core.Path.{_≡_}
 use mathlib.Core.Bool.{Bool, true, false}
-use mathlib.Core.List.{List, [], _∷_, _++_, map}
+use mathlib.Core.List.{List, [], _∷_, map}
 use lib.ListN.{length, getD}
 use Rattle.cells.specs.Text.{bytes}
 use Rattle.cells.specs.Test as test
@@ -14,7 +14,6 @@ use Rattle.usage.specs.Usage.{readUsage}
 use Rattle.supplement.specs.Supplement.{readSupplement}
 use Rattle.supplement.specs.declared.Supplement.{Supplement}
 use Rattle.order.specs.Order.{Sheet, Verdict}
-use Rattle.schedule.specs.Schedule as schedule
 use Rattle.field.specs.Field.{free, usageCode, supplementCode, wrong}
 use Rattle.field.specs.declared.Rule.{Rule}
 use Rattle.field.specs.declared.Sofar.{Sofar}
@@ -25,7 +24,7 @@ use Rattle.record.specs.declared.Record.{Record}
 use Rattle.record.specs.declared.Refusal.{Refusal}
 use Rattle.reader.specs.File.{linesOf, numberOf}
 use Rattle.demands.specs.Numbers.{FieldNumber, atField}
-use Rattle.demands.specs.Taken.{Passes, fieldTests, fieldsIn}
+use Rattle.demands.specs.Taken.{Passes, fieldTests, fieldsIn, joinsAfter}
 
 -- ---- the place
 -- Where the line after the first k begins, of lines that begin at an offset: each has its bytes, CR and LF.
@@ -53,10 +52,6 @@ abbrev pub supplied : List Supplement → List Record → List Supplement
 supplied xs [] = xs
 supplied xs (r ∷ rs) = supplied (supplements xs r) rs
 
--- "31 this supplement, with those before it in its RP, begins no allowed list": one more may join.
-abbrev pub mayJoin : Sofar → List Supplement → Supplement → Bool
-mayJoin c xs x = schedule.list (c .month) (xs ++ (x ∷ []))
-
 -- ---- a field
 -- "Field by field", from the jth on: the kth is f, with the rule r, and those before it pass every test.
 pub data Reaches (joins : Supplement → Bool) (c : Sofar) : ℕ → List Rule → List (List ℕ) → ℕ → Rule → List ℕ → Type 0 where
@@ -79,7 +74,7 @@ numberOn l = recordNumber (split l)
 pub record AtField (before : List ℕ) (c : Sofar) (xs : List Supplement) (l : List ℕ) (k : ℕ) (r : Rule) (f : List ℕ) : Type 0 where
   pub stands : Verdict before (numberOn l) 0
   pub count : counted (numberOn l) (fieldsIn l) ≡ true
-  pub reaches : Reaches (mayJoin c xs) c 1 (rules (numberOn l) (fieldsIn l)) (fieldsIn l) k r f
+  pub reaches : Reaches (joinsAfter c xs) c 1 (rules (numberOn l) (fieldsIn l)) (fieldsIn l) k r f
 
 -- The line l at an offset is refused, after such records.
 pub data WrongLine (before : List ℕ) (c : Sofar) (xs : List Supplement) (at : ℕ) (l : List ℕ) : Refusal → Type 0 where
@@ -92,10 +87,10 @@ pub data WrongLine (before : List ℕ) (c : Sofar) (xs : List Supplement) (at : 
   -- 25 "number of fields": record
   count : Verdict before (numberOn l) 0 → counted (numberOn l) (fieldsIn l) ≡ false → WrongLine before c xs at l (refusal 25 at)
   -- 28, 26, 27, 30, 31: record, field
-  field : {n k : ℕ} {r : Rule} {f : List ℕ} → AtField before c xs l k r f → FieldNumber n → wrong (mayJoin c xs) c r f ≡ n →
+  field : {n k : ℕ} {r : Rule} {f : List ℕ} → AtField before c xs l k r f → FieldNumber n → wrong (joinsAfter c xs) c r f ≡ n →
       WrongLine before c xs at l (atField n at k 0 0)
   -- 29 "code refused; its own number and place follow": record, field
-  code : {n p k : ℕ} {r : Rule} {f : List ℕ} → AtField before c xs l k r f → wrong (mayJoin c xs) c r f ≡ 29 → CodeRefused r f n p →
+  code : {n p k : ℕ} {r : Rule} {f : List ℕ} → AtField before c xs l k r f → wrong (joinsAfter c xs) c r f ≡ 29 → CodeRefused r f n p →
       WrongLine before c xs at l (atField 29 at k n p)
 
 -- ---- the file

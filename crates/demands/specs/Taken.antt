@@ -74,9 +74,13 @@ pub record RightFields (joins : Supplement → Bool) (c : Sofar) (n : ℕ) (fs :
 abbrev pub fieldsIn : List ℕ → List (List ℕ)
 fieldsIn l = drop 1 (split l)
 
--- The line at an offset is right, and says the record r. `xs` are the supplements before it in its RP: one more must begin an allowed list.
+-- "In an RP, kind 8 records hold one I, W or C, or one date run for the month of record 51": after the supplements xs of its RP, one more begins such a list.
+abbrev pub joinsAfter : Sofar → List Supplement → Supplement → Bool
+joinsAfter c xs x = list (c .month) (xs ++ (x ∷ []))
+
+-- The line at an offset is right, and says the record r. `xs` are the supplements before it in its RP.
 pub record RightLine (c : Sofar) (xs : List Supplement) (at : ℕ) (l : List ℕ) (r : Record) : Type 0 where
-  pub fields : RightFields (λ x. list (c .month) (xs ++ (x ∷ []))) c (recordNumber (split l)) (fieldsIn l)
+  pub fields : RightFields (joinsAfter c xs) c (recordNumber (split l)) (fieldsIn l)
   pub is : recordOf (recordNumber (split l)) (at + length (getD (split l) 0 []) + 1) (fieldsIn l) ≡ r
 
 -- Lines, one after the other, each after what the records before it leave.
