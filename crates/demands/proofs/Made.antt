@@ -2,34 +2,33 @@
 -- Assumes nothing.
 use Prim.Native.Nat.{ℕ, _≤_}
 use mathlib.Core.Path.{_≡_, refl, _∙_, sym, ap, subst}
-use mathlib.Core.Bool.{true, _&&_}
+use mathlib.Core.Bool.{true, cond, _&&_}
 use mathlib.Core.List.{List, []}
 use mathlib.Core.Logic.{_↔_}
 use native.Mathlib.Omega.{arith}
 use borrow.Author.Tests.{leb-true, leb-false, le-leb}
-use lib.Dec.{leb}
-use Rattle.cells.specs.Test.{refused}
+use lib.Dec.{leb, eqb}
+use lib.ListN.{length, take}
+use Rattle.cells.specs.Test.{Answer, took, refused}
 use Rattle.cells.proofs.Split.{split}
 use Rattle.cells.proofs.Alike.{and-left, and-right}
 use Rattle.order.proofs.Bools.{clash, both}
-use Rattle.number.specs.Number.{figures}
-use Rattle.date.specs.Date.{exists, eraAdds, date, inStyle, isDate, held, readDate, latestEra, makeWestern, makeEra, makeDate}
+use Rattle.number.specs.Number.{figures, value}
+use Rattle.date.specs.Date.{none, exists, eraAdds, date, inStyle, isDate, western as inWestern, eraDate, held, readDate, latestEra, makeWestern, makeEra, makeDate}
 use Rattle.date.specs.Print.{printDate}
 use Rattle.date.specs.declared.Date.{Date}
-use Rattle.date.specs.declared.Made.{Made}
-use Rattle.date.specs.declared.Made.the-variants.{Day, None}
 use Rattle.date.proofs.Laws.{back, written}
-use Rattle.demands.specs.Numbers.{saidDate, DateNumber, DateTextNumber}
+use Rattle.demands.specs.Numbers.{DateNumber, DateTextNumber}
 use Rattle.demands.specs.Numbers as numbers
 
 -- a refusal's number and place
-of-none : (P : ℕ → ℕ → Type 0) (n p : ℕ) → saidDate None ≡ refused n p → P 27 0 → P n p
+of-none : (P : ℕ → ℕ → Type 0) (n p : ℕ) → none ≡ refused n p → P 27 0 → P n p
 of-none P n p h k =
     let a : 27 ≡ n = cc in
     let b : 0 ≡ p = cc in
     subst (λ (x : ℕ). P x p) a (subst (P 27) b k)
 
-never : {P : Type 0} (t : Date) (n p : ℕ) → saidDate (Day t) ≡ refused n p → P
+never : {P : Type 0} (t : Date) (n p : ℕ) → took t ≡ refused n p → P
 never t n p h = absurd (let z : _≡_ {A = ℕ} 0 1 = cc in omega arith)
 
 -- ---- a year, a month and a day
@@ -39,13 +38,13 @@ Years y = (1868 ≤ y) × (y ≤ 2099)
 
 -- in a style in which all these years, and no others, can be written
 module _ (e y m d : ℕ) (styled : (inStyle (date e y m d) ≡ true) ↔ Years y) where
-  there : (n p : ℕ) → saidDate (held (date e y m d)) ≡ refused n p → DateNumber y m d n p
+  there : (n p : ℕ) → held (date e y m d) ≡ refused n p → DateNumber y m d n p
   unfolding isDate
   there n p h =
       split (isDate (date e y m d)) (λ a. never (date e y m d) n p (simp a at h))
       (λ a. of-none (DateNumber y m d) n p (simp a at h) (numbers.DateNumber.noDate (λ l u x. clash (both (styled .1 (l, u)) x) a)))
 
-  refuses : (n p : ℕ) → DateNumber y m d n p → saidDate (held (date e y m d)) ≡ refused n p
+  refuses : (n p : ℕ) → DateNumber y m d n p → held (date e y m d) ≡ refused n p
   unfolding isDate
   refuses n p (numbers.DateNumber.noDate k) =
       split (isDate (date e y m d))
@@ -72,43 +71,54 @@ latest-years y m d =
 
 module _ (y m d n p : ℕ) where
   -- Made in western style,
-  pub western : (saidDate (makeWestern y m d) ≡ refused n p) ↔ DateNumber y m d n p
+  pub western : (makeWestern y m d ≡ refused n p) ↔ DateNumber y m d n p
   unfolding makeWestern inStyle
   western = (there 0 y m d (western-years y) n p, refuses 0 y m d (western-years y) n p)
 
   -- in era style,
-  pub era : (saidDate (makeEra y m d) ≡ refused n p) ↔ DateNumber y m d n p
+  pub era : (makeEra y m d ≡ refused n p) ↔ DateNumber y m d n p
   unfolding makeEra
   era = (there (latestEra y) y m d (latest-years y m d) n p, refuses (latestEra y) y m d (latest-years y m d) n p)
 
   -- and with no style named.
-  pub unnamed : (saidDate (makeDate y m d) ≡ refused n p) ↔ DateNumber y m d n p
+  pub unnamed : (makeDate y m d ≡ refused n p) ↔ DateNumber y m d n p
   unfolding makeDate
   unnamed = era
 
 -- ---- characters
 module _ (s : List ℕ) where
   -- what is read is a date
-  is-date : (t : Date) → readDate s ≡ Day t → isDate t ≡ true
+  is-date : (t : Date) → readDate s ≡ took t → isDate t ≡ true
   unfolding printDate readDate figures
   is-date t h =
       split (isDate t) (λ a. a)
-      (λ a. let e : [] ≡ s = simp a at (back s t h) in never t 27 0 (ap saidDate (sym h ∙ ap readDate (sym e))))
+      (λ a. let e : [] ≡ s = simp a at (back s t h) in never t 27 0 (sym h ∙ ap readDate (sym e)))
 
-  by-read : {P : Type 0} (a : Made) → readDate s ≡ a → ((t : Date) → readDate s ≡ Day t → P) → (readDate s ≡ None → P) → P
-  by-read (Day t) e f g = f t e
-  by-read None e f g = g e
+  -- and what is none is 27 at 0
+  held-none : (t : Date) (n p : ℕ) → held t ≡ refused n p → held t ≡ none
+  held-none t n p h = split (isDate t) (λ a. never t n p (simp a at h)) (λ a. rw a)
 
-  from-text : (n p : ℕ) → saidDate (readDate s) ≡ refused n p → DateTextNumber s n p
+  read-none : (n p : ℕ) → readDate s ≡ refused n p → readDate s ≡ none
+  unfolding readDate
+  read-none n p h =
+      split (figures s)
+      (λ a. split (eqb (length s) 8) (λ b. rw (a, b) (held-none (inWestern s) n p (simp (a, b) at h)))
+      (λ b. split (eqb (length s) 7 && leb 1 (value 0 (take 1 s))) (λ c. rw (a, b, c) (held-none (eraDate s) n p (simp (a, b, c) at h))) (λ c. rw (a, b, c))))
+      (λ a. rw a)
+
+  by-read : {P : Type 0} (a : Answer Date) → readDate s ≡ a → ((t : Date) → readDate s ≡ took t → P) → (readDate s ≡ none → P) → P
+  by-read (took t) e f g = f t e
+  by-read (refused n p) e f g = g (read-none n p e)
+
+  from-text : (n p : ℕ) → readDate s ≡ refused n p → DateTextNumber s n p
   from-text n p h =
-      by-read (readDate s) refl (λ t e. never t n p (ap saidDate (sym e) ∙ h))
-      (λ e. of-none (DateTextNumber s) n p (ap saidDate (sym e) ∙ h)
-      (numbers.DateTextNumber.noDate (λ t i k. never t 27 0 (ap saidDate (sym (ap readDate (sym k) ∙ written t i) ∙ e)))))
+      of-none (DateTextNumber s) n p (sym (read-none n p h) ∙ h)
+      (numbers.DateTextNumber.noDate (λ t i k. never t n p (sym (ap readDate (sym k) ∙ written t i) ∙ h)))
 
-  no-text : (n p : ℕ) → DateTextNumber s n p → saidDate (readDate s) ≡ refused n p
+  no-text : (n p : ℕ) → DateTextNumber s n p → readDate s ≡ refused n p
   no-text n p (numbers.DateTextNumber.noDate k) =
-      by-read (readDate s) refl (λ t e. absurd (k t (is-date t e) (back s t e))) (λ e. ap saidDate e)
+      by-read (readDate s) refl (λ t e. absurd (k t (is-date t e) (back s t e))) (λ e. e)
 
   -- Read from characters.
-  pub read : (n p : ℕ) → (saidDate (readDate s) ≡ refused n p) ↔ DateTextNumber s n p
+  pub read : (n p : ℕ) → (readDate s ≡ refused n p) ↔ DateTextNumber s n p
   read n p = (from-text n p, no-text n p)

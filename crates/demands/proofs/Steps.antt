@@ -13,8 +13,6 @@ use Rattle.cells.proofs.Split.{split}
 use Rattle.cells.proofs.Alike.{and-left, and-right}
 use Rattle.date.specs.Date.{inStyle, exists, isDate, readDate}
 use Rattle.date.specs.declared.Date.{Date}
-use Rattle.date.specs.declared.Made.{Made}
-use Rattle.date.specs.declared.Made.the-variants.{Day, None}
 use Rattle.number.specs.Number.{figures}
 use Rattle.date.proofs.Style.{print-none}
 use Rattle.date.proofs.Laws as dates
@@ -24,7 +22,7 @@ use Rattle.order.specs.Order.{some, among, header, directions, drug, records}
 use Rattle.order.specs.Next.{stops, anew, may, refusal, follow}
 use Rattle.order.proofs.Bools.{both}
 use Rattle.order.proofs.Chain.{step, risen, begun}
-use Rattle.field.specs.Field.{isDay}
+use Rattle.field.specs.Field.{isTaken}
 use Rattle.field.specs.declared.Sofar.{Sofar}
 use Rattle.row.specs.Table.{nth, typed, rules, rulesFrom}
 use Rattle.record.specs.Record.{after, withSupplement}
@@ -73,11 +71,11 @@ unfolding stops header directions drug some
 after-101 q n h l = not-skipped 101 q n refl (omega arith) h l
 
 -- ---- the month of a date that is read
-no-read : (t : Date) → readDate [] ≡ Day t → ⊥
+no-read : (t : Date) → readDate [] ≡ took t → ⊥
 unfolding readDate figures
 no-read t h = let z : _≡_ {A = ℕ} 0 1 = cc in omega arith
 
-a-date : (f : List ℕ) (t : Date) → readDate f ≡ Day t → isDate t ≡ true
+a-date : (f : List ℕ) (t : Date) → readDate f ≡ took t → isDate t ≡ true
 a-date f t h =
     split (isDate t) (λ e. e) (λ e. absurd (no-read t (ap readDate (sym (print-none t e) ∙ dates.back f t h) ∙ h)))
 
@@ -88,9 +86,9 @@ month-of t h =
     let k = and-right (leb 1 (t .month)) _ e in
     (leb-true 1 (t .month) (and-left _ _ e), leb-true (t .month) 12 (and-left _ _ k))
 
-month-read : (f : List ℕ) (m : Made) → readDate f ≡ m → isDay m ≡ true → (1 ≤ dateIn m .month) × (dateIn m .month ≤ 12)
-month-read f (Day t) e h = month-of t (a-date f t e)
-month-read f None e h = absurd (let z : _≡_ {A = ℕ} 0 1 = cc in omega arith)
+month-read : (f : List ℕ) (m : Answer Date) → readDate f ≡ m → isTaken m ≡ true → (1 ≤ dateIn m .month) × (dateIn m .month ≤ 12)
+month-read f (took t) e h = month-of t (a-date f t e)
+month-read f (refused n p) e h = absurd (let z : _≡_ {A = ℕ} 0 1 = cc in omega arith)
 
 -- a supplement that is read
 code-read : (f : List ℕ) (a : Answer Supplement) → readSupplement f ≡ a → Reads (withSupplement [] (supplementIn a))

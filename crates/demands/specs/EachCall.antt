@@ -25,7 +25,7 @@ use Rattle.reader.specs.Reader.{openFile, nextRecord, call}
 use Rattle.reader.specs.declared.State.{State}
 use Rattle.reader.specs.declared.Handed.the-variants.{Refused as Refuses}
 use Rattle.demands.specs.One.{One}
-use Rattle.demands.specs.Numbers.{UsageNumber, SupplementNumber, RunNumber, saidDate, DateNumber, DateTextNumber, LineRefusal}
+use Rattle.demands.specs.Numbers.{UsageNumber, SupplementNumber, RunNumber, DateNumber, DateTextNumber, LineRefusal}
 use Rattle.demands.specs.Refused.{FileRefusal}
 
 -- "Every file, code and record handed over gets an answer": writing a code or a set of days has one answer that meets its promise, and no other.
@@ -51,13 +51,13 @@ pub record NumberAndPlace : Type 0 where
   -- and in any state inside the file, once opened, also one that no call gave;
   pub state : (s : List ℕ) (t : State) (f : Refusal) → t .number ≡ 0 → t .at < length s → nextRecord s t .next ≡ Refuses f → LineRefusal s (t .at) f
   -- making a date: exactly where there is none, in western style,
-  pub western : (y m d n p : ℕ) → (saidDate (makeWestern y m d) ≡ refused n p) ↔ DateNumber y m d n p
+  pub western : (y m d n p : ℕ) → (makeWestern y m d ≡ refused n p) ↔ DateNumber y m d n p
   -- in era style,
-  pub era : (y m d n p : ℕ) → (saidDate (makeEra y m d) ≡ refused n p) ↔ DateNumber y m d n p
+  pub era : (y m d n p : ℕ) → (makeEra y m d ≡ refused n p) ↔ DateNumber y m d n p
   -- and with no style named;
-  pub date : (y m d n p : ℕ) → (saidDate (makeDate y m d) ≡ refused n p) ↔ DateNumber y m d n p
+  pub date : (y m d n p : ℕ) → (makeDate y m d ≡ refused n p) ↔ DateNumber y m d n p
   -- reading one: exactly where no date is written so;
-  pub dateRead : (s : List ℕ) (n p : ℕ) → (saidDate (readDate s) ≡ refused n p) ↔ DateTextNumber s n p
+  pub dateRead : (s : List ℕ) (n p : ℕ) → (readDate s ≡ refused n p) ↔ DateTextNumber s n p
   -- writing a usage code: "35 code record that no code reads as",
   pub usageWritten : (i : Instruction) (w : WrittenUsage) → WritesUsage i w → (w .number ≡ 0 → ⊥) →
       (w .number ≡ 35) × ((s : List ℕ) → readUsage s ≡ took i → ⊥)

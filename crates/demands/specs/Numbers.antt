@@ -18,8 +18,6 @@ use Rattle.schedule.specs.Schedule.{dateRun}
 use Rattle.date.specs.Date.{exists, isDate}
 use Rattle.date.specs.Print.{printDate}
 use Rattle.date.specs.declared.Date.{Date}
-use Rattle.date.specs.declared.Made.{Made}
-use Rattle.date.specs.declared.Made.the-variants.{Day, None}
 use Rattle.row.specs.Row.{fieldsAt}
 use Rattle.record_line.specs.Line.{refusal}
 use Rattle.record.specs.declared.Refusal.{Refusal}
@@ -92,11 +90,6 @@ pub data SetNumber (issue : ℕ) (cells buffer : List ℕ) : ℕ → ℕ → Typ
   cannot : aMonth issue ≡ true → writable cells ≡ false → SetNumber issue cells buffer 11 0
   -- 33 "no room": 0
   room : (run : List ℕ) → readRun issue run ≡ takes cells → length buffer < length run → SetNumber issue cells buffer 33 0
-
--- "No such day or year is 27, place 0": document 01's number and values of a date that a caller makes.
-abbrev pub saidDate : Made → test.Answer Date
-saidDate (Day t) = test.took t
-saidDate None = test.refused 27 0
 
 -- A year, a month and a day that are no date.
 pub data DateNumber (y m d : ℕ) : ℕ → ℕ → Type 0 where
