@@ -8,19 +8,25 @@ use borrow.Author.Tests.{le-leb, lt-leb}
 use lib.Dec.{leb}
 use lib.ListN.{length, drop, length-append}
 use Rattle.cells.proofs.Split.{split}
+use Rattle.record.specs.declared.Record.{Record}
 use Rattle.record.specs.declared.Refusal.{Refusal}
-use Rattle.reader.specs.File.{Ending, whole, stopped, readFile, checkFile}
-use Rattle.reader.specs.declared.Checked.the-variants.{Records, Refused}
+use Rattle.reader.specs.File.{Ending, whole, stopped, readFile}
+use Rattle.reader.specs.Reader.{endingOf}
+use Rattle.reader.specs.declared.Handed.the-variants.{Record as Hands, Refused as Refuses, End}
 use Rattle.rewriter.specs.Rewritten.{Again, nothing, onEnding, rewritten}
 
--- A sheet whose records are counted is whole.
-pub counted-whole : (s : List ℕ) (n : ℕ) → checkFile s ≡ Records n → readFile s .ending ≡ whole
-unfolding checkFile
-counted-whole s n h = by (readFile s .ending) refl
+-- A sheet that is read to its end is whole,
+pub ended-whole : (s : List ℕ) → endingOf (readFile s .ending) ≡ End → readFile s .ending ≡ whole
+ended-whole s h = by (readFile s .ending) refl
   where
     by : (e : Ending) → readFile s .ending ≡ e → readFile s .ending ≡ whole
     by whole e = e
     by (stopped f) e = absurd (let k = rw e at h in let z : _≡_ {A = ℕ} 0 1 = cc in omega arith)
+
+-- and none ends with a record.
+no-record : (e : Ending) (r : Record) → endingOf e ≡ Hands r → ⊥
+no-record whole r h = let z : _≡_ {A = ℕ} 0 1 = cc in omega arith
+no-record (stopped f) r h = let z : _≡_ {A = ℕ} 0 1 = cc in omega arith
 
 module _ (s out : List ℕ) where
   -- Nothing is written into a buffer that is shorter than the sheet,
@@ -29,13 +35,16 @@ module _ (s out : List ℕ) where
   too-short h = rw (lt-leb (length s) (length out) h)
 
   -- nor of a sheet that is refused;
-  pub refused : (f : Refusal) → checkFile s ≡ Refused f → rewritten s out ≡ nothing out
-  unfolding rewritten checkFile
+  pub refused : (f : Refusal) → endingOf (readFile s .ending) ≡ Refuses f → rewritten s out ≡ nothing out
+  unfolding rewritten
   refused f h = by (readFile s .ending) refl
     where
       by : (e : Ending) → readFile s .ending ≡ e → rewritten s out ≡ nothing out
       by whole e = absurd (let k = rw e at h in let z : _≡_ {A = ℕ} 0 1 = cc in omega arith)
       by (stopped g) e = split (leb (length s) (length out)) (λ k. rw (k, e)) (λ k. rw k)
+
+  pub never-record : (r : Record) → endingOf (readFile s .ending) ≡ Hands r → rewritten s out ≡ nothing out
+  never-record r h = absurd (no-record (readFile s .ending) r h)
 
   -- one that is whole is written byte by byte, and the rest of the buffer stays.
   pub whole-again : readFile s .ending ≡ whole → length s ≤ length out → rewritten s out ≡ record { length = length s; buffer = s ++ drop (length s) out }

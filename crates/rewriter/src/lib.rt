@@ -1,5 +1,4 @@
 // A sheet that is taken, written again: the reader and the writer, one after the other.
-use reader::Checked;
 use reader::Handed;
 ghost use mathlib.Core.Path.{_≡_};
 ghost use mathlib.Core.List.{_++_};
@@ -42,8 +41,9 @@ pub fn rewrite(s: &[u8], out: &mut [u8]) -> usize
     if out.len() < s.len() {
         return 0;
     }
-    match reader::check(s) {
-        Checked::Refused(_) => 0,
-        Checked::Records(_) => put_all(s, out),
+    match sheet::walk(s) {
+        Handed::Record(_) => 0,
+        Handed::Refused(_) => 0,
+        Handed::End => put_all(s, out),
     }
 }

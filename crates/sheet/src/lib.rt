@@ -5,7 +5,9 @@ use reader::Step;
 use record::Place;
 ghost use mathlib.Core.Path.{_≡_};
 ghost use Rattle.record.specs.Record.{textAt};
-ghost use Rattle.reader.specs.Reader.{openFile, nextRecord};
+ghost use Rattle.reader.specs.File.{readFile};
+ghost use Rattle.reader.specs.Reader.{openFile, nextRecord, endingOf};
+ghost use Rattle.sheet.specs.Walk.{hands as handsOf, Ends};
 
 // The lent file, and where the reader is in it.
 pub struct Sheet<'a> {
@@ -45,8 +47,39 @@ pub fn text<'a>(r: Sheet<'a>, p: Place) -> &'a [u8]
     record::text(r.file, p)
 }
 
-// The state that a file is read from on: a sheet is opened, and let go of. It and `step` speak of no sheet, so whoever calls them needs no walk by
-// hand.
+// Does a step hand out a record?
+fn hands(s: Step) -> bool
+    ensures { λ r. ⌜ r ≡ handsOf (s .next) ⌝ }
+{
+    let answer = s.next;
+    match answer {
+        Handed::Record(_) => true,
+        Handed::Refused(_) => false,
+        Handed::End => false,
+    }
+}
+
+// The sheet read to its end: the answer that hands out no record.
+fn last<'a>(r: Sheet<'a>) -> Handed
+    ensures { λ a. ⌜ Ends (now (r .entry .file)) a (r .entry .state) ⌝ }
+{
+    let s = next(r);
+    if hands(s) {
+        return last(after(r, s));
+    } else {
+        return s.next;
+    }
+}
+
+// How a file ends: the end, or its refusal. A sheet is opened and read to its end. It, `begin` and `step` speak of no sheet, so whoever calls them
+// needs no walk by hand.
+pub fn walk(file: &[u8]) -> Handed
+    ensures { λ r. ⌜ r ≡ endingOf (readFile (now (file .entry)) .ending) ⌝ }
+{
+    last(open(file))
+}
+
+// The state that a file is read from on: a sheet is opened, and let go of.
 pub fn begin(file: &[u8]) -> State
     ensures { λ t. ⌜ t ≡ openFile (now (file .entry)) ⌝ }
 {

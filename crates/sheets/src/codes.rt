@@ -38,9 +38,9 @@ pub fn tell(a: Again) {
 }
 
 // Record by record; a sheet that is taken ends with no refusal.
-pub fn of_sheet(s: &[u8], before: Again) -> Again {
+pub fn of_sheet(s: &[u8], so_far: Again) -> Again {
     let mut t = reader::open(s);
-    let mut a = before;
+    let mut a = so_far;
     loop {
         let at = t.at;
         let step = reader::next(s, t);
@@ -63,8 +63,14 @@ pub fn of_sheet(s: &[u8], before: Again) -> Again {
 // The code of a record whose line begins at an offset: the third field of a 111, the fifth of a 181.
 fn of_record(s: &[u8], at: usize, r: Record, a: Again) -> Again {
     match r {
-        Record::Usage(x) => of_usage(field(s, at, 3), x.code, a),
-        Record::Supplement(x) => of_supplement(field(s, at, 5), x.code, a),
+        Record::Usage(x) => {
+            let code = x.code;
+            of_usage(field(s, at, 3), code, a)
+        }
+        Record::Supplement(x) => {
+            let code = x.code;
+            of_supplement(field(s, at, 5), code, a)
+        }
         Record::Issue(_) => a,
         Record::Rp(_) => a,
         Record::Drug(_) => a,

@@ -6,10 +6,13 @@ use Rattle.sheets.proofs.check_each.Statement.{statement}
 use Rattle.sheets.proofs.check_each.Tie as tie
 
 abbrev Inv-loop : tie.InvT-loop
-Inv-loop names at₀ at = at ≤ length names + 1
+Inv-loop names at₀ a₀ at a = at ≤ length names + 1
 
 abbrev μ-loop : tie.MeasureT-loop
-μ-loop names at₀ at = length names + 1 - at
+μ-loop names at₀ a₀ at a = length names + 1 - at
+
+none-requires : tie.Need-none-requires Inv-loop μ-loop
+none-requires c κs = search needs
 
 loop-holds : tie.Need-loop-holds Inv-loop μ-loop
 loop-holds c = search needs
@@ -38,6 +41,9 @@ loop-less c = search needs
 loop-again : tie.Need-loop-again Inv-loop μ-loop
 loop-again c = search needs
 
+tell-requires : tie.Need-tell-requires Inv-loop μ-loop
+tell-requires c κs = search needs
+
 returns : tie.Need-returns Inv-loop μ-loop
 returns c = search needs
 
@@ -47,6 +53,7 @@ check-each-spec =
     (tie.spec
     Inv-loop
     μ-loop
+    none-requires
     loop-holds
     name-end-requires
     sub-tell-line
@@ -56,4 +63,5 @@ check-each-spec =
     add-at
     loop-less
     loop-again
+    tell-requires
     returns)
