@@ -31,16 +31,14 @@ use Rattle.reader.specs.Open.{fileFault}
 use Rattle.reader.specs.File.{File, Ending, whole, stopped, ended, before, on as upon, readLines, readFile}
 use Rattle.reader.specs.Reader.{openFile, endAt, saidAgain, closing, on, nextRecord, call, endingOf}
 use Rattle.reader.specs.declared.State.{State}
-use Rattle.reader.specs.declared.Handed.{Handed}
-use Rattle.reader.specs.declared.Handed.the-variants.{Record as Hands, Refused as Refuses, End}
-use Rattle.reader.specs.declared.Step.{Step}
+use Rattle.reader.specs.Said.{Next, Hands, Refuses, End, Turn}
 use Rattle.reader.proofs.Lines.{Opened, opens, kept, line-fields, no-end, took-inside, after-line, at-end}
 
 -- an answer that leaves the state as it was, and one that hands out a record and goes on
-abbrev pub stays : State → Handed → Step
+abbrev pub stays : State → Next → Turn
 stays t a = record { next = a; state = t }
 
-abbrev pub goes : State → Record → ℕ → Step
+abbrev pub goes : State → Record → ℕ → Turn
 goes t r next = record { next = Hands r; state = record { number = 0; at = next; sofar = after (t .sofar) r } }
 
 -- ---- one call, on any bytes and in any state
@@ -169,8 +167,8 @@ module _ (s : List ℕ) (t : State) (f : File) {P : Type 0}
       by : (w : Answer) → answer s t l ls xs a ≡ w → P
       by (Took r) e =
           let k : nextRecord s t ≡ goes t r m = line-step s t l ls xs a ∙ ap (λ (w : Answer). on t w m) e in
-          go r (others r) (ap (λ (w : Step). w .next) k)
-          (subst (λ (w : Step). Tells s (w .state) (others r)) (sym k) (along ls (supplements xs r) (line-after s t l ls xs a r e) refl))
+          go r (others r) (ap (λ (w : Turn). w .next) k)
+          (subst (λ (w : Turn). Tells s (w .state) (others r)) (sym k) (along ls (supplements xs r) (line-after s t l ls xs a r e) refl))
           (q ∙ ap (λ (w : Answer). upon w others) e)
       by (Refused n) e =
           stop (stopped n) (line-step s t l ls xs a ∙ ap (λ (w : Answer). on t w m) e) (q ∙ ap (λ (w : Answer). upon w others) e)

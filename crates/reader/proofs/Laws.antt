@@ -26,19 +26,21 @@ use Rattle.reader.specs.File.{File, Ending, whole, stopped, readFile, co
 use Rattle.reader.specs.Reader.{on, openFile, nextRecord, call, endingOf, told}
 use Rattle.reader.specs.declared.State.{State}
 use Rattle.reader.specs.declared.Handed.{Handed}
-use Rattle.reader.specs.declared.Handed.the-variants.{Record as Hands, Refused as Refuses, End}
+use Rattle.reader.specs.declared.Handed.the-variants.{Record as HandedRecord, Refused as HandedRefusal, End as HandedEnd}
 use Rattle.reader.specs.declared.Step.{Step}
+use Rattle.reader.specs.declared.Checked.{Checked}
+use Rattle.reader.specs.declared.Checked.the-variants.{Records as CheckedRecords, Refused as CheckedRefusal}
+use Rattle.reader.specs.Said.{Next, Hands, Refuses, End, Turn, Records, Not, saidNext, said, saidCheck}
 use Rattle.reader.specs.declared.Gone.the-variants.{On, Refused, End as AtEnd}
 use Rattle.reader.specs.Code.Gone.{movesOn, gone, goneOf, goneBy}
-use Rattle.reader.specs.declared.Checked.the-variants.{Records, Refused as Not}
 use Rattle.reader.proofs.Lines.{end-there}
 use Rattle.reader.proofs.Order.{stand}
 use Rattle.reader.proofs.Along.{by-call, rests, Tells, by-rest, from-opening}
 
-abbrev nextOf : Step → Handed
+abbrev nextOf : Turn → Next
 nextOf w = w .next
 
-abbrev stateOf : Step → State
+abbrev stateOf : Turn → State
 stateOf w = w .state
 
 -- Where the end is told.
@@ -48,6 +50,30 @@ pub record Ends (s : List ℕ) (t : State) : Type 0 where
   pub is : getD s (t .at) 0 ≡ 0x1a
   pub closes : Next.closes (t .sofar .last) ≡ true
 
+-- ---- one answer
+-- Two answers of a call that say the same are one,
+pub one-handed : (a b : Handed) → saidNext a ≡ saidNext b → a ≡ b
+one-handed (HandedRecord r) (HandedRecord q) e = cc
+one-handed (HandedRecord r) (HandedRefusal g) e = cc
+one-handed (HandedRecord r) HandedEnd e = cc
+one-handed (HandedRefusal f) (HandedRecord q) e = cc
+one-handed (HandedRefusal f) (HandedRefusal g) e = cc
+one-handed (HandedRefusal f) HandedEnd e = cc
+one-handed HandedEnd (HandedRecord q) e = cc
+one-handed HandedEnd (HandedRefusal g) e = cc
+one-handed HandedEnd HandedEnd e = refl
+
+-- with the state to go on with,
+pub one-step : (a b : Step) → said a ≡ said b → a ≡ b
+one-step a b e = λ i. record { next = one-handed (a .next) (b .next) (λ j. e j .next) i; state = e i .state }
+
+-- and so are two answers of checking.
+pub one-check : (a b : Checked) → saidCheck a ≡ saidCheck b → a ≡ b
+one-check (CheckedRecords n) (CheckedRecords m) e = cc
+one-check (CheckedRecords n) (CheckedRefusal g) e = cc
+one-check (CheckedRefusal f) (CheckedRecords m) e = cc
+one-check (CheckedRefusal f) (CheckedRefusal g) e = cc
+
 -- ---- one call
 module _ (s : List ℕ) (t : State) where
   -- a record is handed out only inside the file, by a reader that was not refused
@@ -56,7 +82,7 @@ module _ (s : List ℕ) (t : State) where
   handed r h k =
       by-call s t (λ f e. absurd (let i = ap nextOf e in let z : _≡_ {A = ℕ} 0 1 = cc in omega arith))
       (λ y i c e. absurd (let i = ap nextOf e in let z : _≡_ {A = ℕ} 0 1 = cc in omega arith))
-      (λ q n z l m e. k n z l m (ap (λ (w : Step). w .state .at) e))
+      (λ q n z l m e. k n z l m (ap (λ (w : Turn). w .state .at) e))
 
   -- and any other answer leaves the state as it was
   stayed : ((r : Record) → nextRecord s t .next ≡ Hands r → ⊥) → nextRecord s t .state ≡ t
@@ -168,17 +194,17 @@ module _ (t : State) where
   line-gone s = after-passed (readParts (mayJoin (t .sofar .month) (t .sofar .schedule)) (t .sofar) (t .at) (fieldsAt s (t .at))) (t .at + length (join (fieldsAt s (t .at))) + 2)
 
 -- and what it says of the call.
-on-by : {P : Type 0} (h : Handed) (t u : State) → gone h t ≡ On u → ((r : Record) → h ≡ Hands r → t ≡ u → P) → P
+on-by : {P : Type 0} (h : Next) (t u : State) → gone h t ≡ On u → ((r : Record) → h ≡ Hands r → t ≡ u → P) → P
 on-by (Hands r) t u e k = k r refl (let z : t ≡ u = cc in z)
 on-by (Refuses f) t u e k = absurd (let z : _≡_ {A = ℕ} 0 1 = cc in omega arith)
 on-by End t u e k = absurd (let z : _≡_ {A = ℕ} 0 1 = cc in omega arith)
 
-refused-by : (h : Handed) (t : State) (f : Refusal) → gone h t ≡ Refused f → h ≡ Refuses f
+refused-by : (h : Next) (t : State) (f : Refusal) → gone h t ≡ Refused f → h ≡ Refuses f
 refused-by (Hands r) t f e = absurd (let z : _≡_ {A = ℕ} 0 1 = cc in omega arith)
 refused-by (Refuses g) t f e = let z : g ≡ f = cc in ap Refuses z
 refused-by End t f e = absurd (let z : _≡_ {A = ℕ} 0 1 = cc in omega arith)
 
-end-by : (h : Handed) (t : State) → gone h t ≡ AtEnd → h ≡ End
+end-by : (h : Next) (t : State) → gone h t ≡ AtEnd → h ≡ End
 end-by (Hands r) t e = absurd (let z : _≡_ {A = ℕ} 0 1 = cc in omega arith)
 end-by (Refuses g) t e = absurd (let z : _≡_ {A = ℕ} 0 1 = cc in omega arith)
 end-by End t e = refl
@@ -203,7 +229,7 @@ module _ (s : List ℕ) (t : State) (n : ℕ) (c : Counts s t n) where
   counts-room r h = omega (arith, was-inside s t r h, c .below (was-open s t r h))
 
   -- an answer that is no record is the file's ending
-  told-ending : {P : Type 0} (a : Handed) → nextRecord s t .next ≡ a → ((r : Record) → a ≡ Hands r → ⊥) →
+  told-ending : {P : Type 0} (a : Next) → nextRecord s t .next ≡ a → ((r : Record) → a ≡ Hands r → ⊥) →
       ((e : Ending) → endingOf e ≡ a → checkFile s ≡ counted n e → P) → P
   told-ending a h none give =
       by-rest s t (c .rest)

@@ -18,8 +18,7 @@ use Rattle.record.specs.declared.Refusal.{Refusal}
 use Rattle.record.specs.declared.Answer.{Answer}
 use Rattle.record.specs.declared.Answer.the-variants.{Took, Refused}
 use Rattle.reader.specs.Open.{fileFault}
-use Rattle.reader.specs.declared.Checked.{Checked}
-use Rattle.reader.specs.declared.Checked.the-variants.{Records, Refused as Not}
+use Rattle.reader.specs.Said.{Check, Records, Not}
 
 -- How a file ends: whole, or with a refusal.
 pub data Ending : Type 0 where
@@ -79,10 +78,10 @@ numberOf (Drug x) = 201
 numberOf (Kept x) = x .number
 
 -- How many records a file has, with its version line; or its refusal.
-abbrev pub counted : ℕ → Ending → Checked
+abbrev pub counted : ℕ → Ending → Check
 counted n whole = Records n
 counted n (stopped f) = Not f
 
 -- What checking a file tells.
-unfoldable pub checkFile : List ℕ → Checked
+unfoldable pub checkFile : List ℕ → Check
 checkFile s = counted (1 + length (readFile s .records)) (readFile s .ending)

@@ -1,4 +1,5 @@
 pub mod Open
+pub mod Said
 pub mod File
 pub mod Reader
 pub mod Code

@@ -14,10 +14,8 @@ use Rattle.record.specs.declared.Answer.{Answer}
 use Rattle.record.specs.declared.Answer.the-variants.{Took, Refused}
 use Rattle.reader.specs.Open.{fileFault}
 use Rattle.reader.specs.File.{File, Ending, whole, stopped}
+use Rattle.reader.specs.Said.{Next, Hands, Refuses, End, Turn}
 use Rattle.reader.specs.declared.State.{State}
-use Rattle.reader.specs.declared.Handed.{Handed}
-use Rattle.reader.specs.declared.Handed.the-variants.{Record as Hands, Refused as Refuses, End}
-use Rattle.reader.specs.declared.Step.{Step}
 
 -- A reader that is opened on a file, or keeps the refusal of the whole file.
 abbrev pub opened : ℕ → ℕ → State
@@ -32,7 +30,7 @@ unfoldable pub endAt : List ℕ → ℕ → Bool
 endAt s at = ltb at (length s) && eqb (getD s at 0) 0x1a
 
 -- "After a refusal it refuses the same again; after the end it says the end again": both leave the state as it was.
-abbrev pub refuses : State → ℕ → Step
+abbrev pub refuses : State → ℕ → Turn
 refuses t number = record { next = Refuses (refusal number (t .at)); state = t }
 
 -- What is refused again is 20, 21 or 22, which opening told. A state with any other number was given by no call: there nothing was opened, and
@@ -41,16 +39,16 @@ unfoldable pub saidAgain : ℕ → ℕ
 saidAgain number = cond (leb 20 number && leb number 22) number 24
 
 -- "Also at the end": 32 at the 1Ah where a needed record is missing.
-abbrev pub closing : State → Step
+abbrev pub closing : State → Turn
 closing t = cond (closes (t .sofar .last)) (record { next = End; state = t }) (refuses t 32)
 
 -- A record is handed out, and the reader goes on after it.
-abbrev pub on : State → Answer → ℕ → Step
+abbrev pub on : State → Answer → ℕ → Turn
 on t (Took r) next = record { next = Hands r; state = record { number = 0; at = next; sofar = after (t .sofar) r } }
 on t (Refused f) next = record { next = Refuses f; state = t }
 
 -- One call.
-unfoldable pub nextRecord : List ℕ → State → Step
+unfoldable pub nextRecord : List ℕ → State → Turn
 nextRecord s t =
     cond (eqb (t .number) 0)
     (cond (endAt s (t .at)) (closing t)
@@ -59,17 +57,17 @@ nextRecord s t =
     (refuses t (saidAgain (t .number)))
 
 -- The answer of the call that has n calls before it, from a state on.
-unfoldable pub call : ℕ → List ℕ → State → Handed
+unfoldable pub call : ℕ → List ℕ → State → Next
 call zero s t = nextRecord s t .next
 call (suc n) s t = call n s (nextRecord s t .state)
 
 -- What stands at the place n, counted from 0, of what a file is read as: a record, or its ending for ever.
-abbrev pub endingOf : Ending → Handed
+abbrev pub endingOf : Ending → Next
 endingOf whole = End
 endingOf (stopped f) = Refuses f
 
 -- The records first.
-unfoldable pub told : ℕ → List Record → Ending → Handed
+unfoldable pub told : ℕ → List Record → Ending → Next
 told n [] e = endingOf e
 told zero (r ∷ rs) e = Hands r
 told (suc n) (r ∷ rs) e = told n rs e

@@ -7,6 +7,7 @@ use record::Refusal;
 ghost use mathlib.Core.Path.{_≡_};
 ghost use Rattle.record_line.specs.Line.{refusal as refusalOf};
 ghost use Rattle.reader.specs.Open.{versionLine};
+ghost use Rattle.reader.specs.Said.{said, saidCheck};
 ghost use Rattle.reader.specs.File.{checkFile};
 ghost use Rattle.reader.specs.Reader.{opened as openedOf, openFile, refuses, endAt, saidAgain, closing, on, nextRecord};
 ghost use Rattle.reader.specs.Code.Gone.{movesOn, goneOf, goneBy};
@@ -87,7 +88,7 @@ fn told(number: u8, at: usize) -> Refusal
 }
 
 fn refused(t: State, number: u8) -> Step
-    ensures { λ r. ⌜ r ≡ refuses t number ⌝ }
+    ensures { λ r. ⌜ said r ≡ refuses t number ⌝ }
 {
     Step {
         next: Handed::Refused(told(number, t.at)),
@@ -117,7 +118,7 @@ fn ends(s: &[u8], at: usize) -> bool
 
 // At the 1Ah: the end, or 32 where a record is missing.
 fn close(t: State) -> Step
-    ensures { λ r. ⌜ r ≡ closing t ⌝ }
+    ensures { λ r. ⌜ said r ≡ closing t ⌝ }
 {
     if order::closes(t.sofar.last) {
         return Step {
@@ -130,7 +131,7 @@ fn close(t: State) -> Step
 
 // A record and the state after it, or a refusal and the state as it was.
 fn moved(t: State, answer: Answer, next: usize, sofar: Sofar) -> Step
-    ensures { λ r. ⌜ r ≡ movesOn t answer next sofar ⌝ }
+    ensures { λ r. ⌜ said r ≡ movesOn t answer next sofar ⌝ }
 {
     match answer {
         Answer::Took(r) => Step {
@@ -150,7 +151,7 @@ fn moved(t: State, answer: Answer, next: usize, sofar: Sofar) -> Step
 
 // The next record, the refusal or the end.
 pub fn next(s: &[u8], t: State) -> Step
-    ensures { λ r. ⌜ r ≡ nextRecord (now (s .entry)) t ⌝ }
+    ensures { λ r. ⌜ said r ≡ nextRecord (now (s .entry)) t ⌝ }
 {
     let at = t.at;
     if t.number != 0 {
@@ -215,7 +216,7 @@ pub enum Checked {
 
 // Reads a whole file, record by record.
 pub fn check(s: &[u8]) -> Checked
-    ensures { λ r. ⌜ r ≡ checkFile (now (s .entry)) ⌝ }
+    ensures { λ r. ⌜ saidCheck r ≡ checkFile (now (s .entry)) ⌝ }
 {
     let mut t = open(s);
     let mut n: usize = 1;

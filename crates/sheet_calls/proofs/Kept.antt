@@ -5,15 +5,14 @@ use mathlib.Core.Path.{_≡_}
 use mathlib.Core.List.{List}
 use Rattle.record.specs.declared.Record.{Record}
 use Rattle.record.specs.declared.Refusal.{Refusal}
-use Rattle.reader.specs.declared.Handed.the-variants.{Record as Hands, Refused as Refuses, End}
-use Rattle.reader.specs.declared.Step.{Step}
+use Rattle.reader.specs.Said.{Hands, Refuses, End, Turn}
 use Rattle.plain_record.specs.Records.{recordNumbers}
 use Rattle.told.specs.States.{readerNumbers, readerOf}
 use Rattle.told.specs.Answers.{refusalNumbers, noRefusal}
 use Rattle.sheet_calls.specs.Calls.{Steps}
 
 -- One call of the reader, by what it hands out: a record and the state after it,
-module _ (x : Step) (state₀ numbers₀ : List ℕ) where
+module _ (x : Turn) (state₀ numbers₀ : List ℕ) where
   pub steps-on : (r : Record) → x .next ≡ Hands r → (state numbers : List ℕ) → (state ≡ readerNumbers (x .state)) × (readerOf state ≡ x .state) →
       numbers ≡ recordNumbers r → Steps x state₀ numbers₀ 0 noRefusal state numbers
   steps-on r h state numbers e n =

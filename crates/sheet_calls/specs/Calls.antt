@@ -3,14 +3,13 @@
 use Prim.Native.Nat.{ℕ}
 use mathlib.Core.Path.{_≡_}
 use mathlib.Core.List.{List}
+use Rattle.reader.specs.Said.{Turn, Check}
 use Rattle.reader.specs.declared.State.{State}
-use Rattle.reader.specs.declared.Checked.{Checked}
-use Rattle.reader.specs.declared.Step.{Step}
 use Rattle.told.specs.States.{readerNumbers, readerOf}
 use Rattle.told.specs.Answers.{checkedNumber, checkedRecords, checkedRefusal, handedNumber, handedRecord, handedRefusal, handedState}
 
 -- Checking a sheet: the number, the refusal, and how many records it has.
-pub record Checks (checked : Checked) (before returned : ℕ) (refusal : List ℕ) (after : ℕ) : Type 0 where
+pub record Checks (checked : Check) (before returned : ℕ) (refusal : List ℕ) (after : ℕ) : Type 0 where
   pub returns : returned ≡ checkedNumber checked
   pub refuses : refusal ≡ checkedRefusal checked
   pub leaves : after ≡ checkedRecords checked before
@@ -23,7 +22,7 @@ pub record Opens (opened : State) (returned : ℕ) (state : List ℕ) : Type 0 w
   pub holds : readerOf state ≡ opened
 
 -- One call of the reader: the number, the refusal, the state and the record.
-pub record Steps (step : Step) (state₀ numbers₀ : List ℕ) (returned : ℕ) (refusal state numbers : List ℕ) : Type 0 where
+pub record Steps (step : Turn) (state₀ numbers₀ : List ℕ) (returned : ℕ) (refusal state numbers : List ℕ) : Type 0 where
   pub returns : returned ≡ handedNumber (step .next)
   pub refuses : refusal ≡ handedRefusal (step .next)
   pub moves : state ≡ handedState (step .next) (readerNumbers (step .state)) state₀

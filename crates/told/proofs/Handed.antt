@@ -22,9 +22,8 @@ use Rattle.record.specs.declared.Record.{Record}
 use Rattle.record.specs.declared.Answer.{Answer}
 use Rattle.record.specs.declared.Answer.the-variants.{Took, Refused}
 use Rattle.reader.specs.Reader.{endAt, saidAgain, refuses, on, nextRecord}
+use Rattle.reader.specs.Said.{Hands, End, Turn}
 use Rattle.reader.specs.declared.State.{State}
-use Rattle.reader.specs.declared.Handed.the-variants.{Record as Hands, End}
-use Rattle.reader.specs.declared.Step.{Step}
 use Rattle.held.proofs.Row.{Fine}
 use Rattle.held.proofs.Taken.{taken}
 use Rattle.plain_record.specs.Records.{recordNumbers}
@@ -128,7 +127,7 @@ module _ (joins : Supplement → Bool) (c : Sofar) where
 
 -- ---- one call
 -- where the answer is a record, the record fits
-abbrev Hold : Step → Type 0
+abbrev Hold : Turn → Type 0
 Hold w = (r : Record) → w .next ≡ Hands r → FitsRecord r
 
 -- the answer that a line gives

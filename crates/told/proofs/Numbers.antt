@@ -30,8 +30,7 @@ use Rattle.record_line.specs.Line.{recordNumber, readFields, readParts, lineAft
 use Rattle.reader.specs.Reader.{endAt, saidAgain, on, nextRecord}
 use Rattle.reader.specs.declared.State.{State}
 use Rattle.reader.specs.Reader as reader
-use Rattle.reader.specs.declared.Handed.the-variants.{End}
-use Rattle.reader.specs.declared.Step.{Step}
+use Rattle.reader.specs.Said.{End, Turn}
 use Rattle.reader.proofs.Lines.{end-there}
 use Rattle.plain.proofs.Read.{either, chosen}
 use Rattle.told.specs.States.{readerOf}
@@ -127,27 +126,27 @@ again-listed n =
     (λ e. (omega arith, omega arith))
 
 module _ (s n : List ℕ) where
-  abbrev OfStep : Step → Type 0
-  OfStep w = Returned s n (handedNumber (w .next))
+  abbrev OfTurn : Turn → Type 0
+  OfTurn w = Returned s n (handedNumber (w .next))
 
-  line-number : (t : State) (a : Answer) (m : ℕ) → OfAnswer a → OfStep (on t (lineAfter (t .sofar) a m .answer) (lineAfter (t .sofar) a m .next))
+  line-number : (t : State) (a : Answer) (m : ℕ) → OfAnswer a → OfTurn (on t (lineAfter (t .sofar) a m .answer) (lineAfter (t .sofar) a m .next))
   line-number t (Took r) m taken = handed
   line-number t (Refused f) m (told l k) = refuses l k
 
   -- a refusal that is told
-  tells : (t : State) (k : ℕ) → (20 ≤ k) × (k ≤ 32) → OfStep (reader.refuses t k)
+  tells : (t : State) (k : ℕ) → (20 ≤ k) × (k ≤ 32) → OfTurn (reader.refuses t k)
   tells t k h = refuses (h .0) (h .1)
 
   -- the end, which is told where the 1Ah is
-  ends : endAt s (getD n 0 0) ≡ true → (t : State) → OfStep (record { next = End; state = t })
+  ends : endAt s (getD n 0 0) ≡ true → (t : State) → OfTurn (record { next = End; state = t })
   ends e t = ended (end-there s (getD n 0 0) e .0) (end-there s (getD n 0 0) e .1)
 
-  by-state : (t : State) → t .at ≡ getD n 0 0 → OfStep (nextRecord s t)
+  by-state : (t : State) → t .at ≡ getD n 0 0 → OfTurn (nextRecord s t)
   unfolding nextRecord lineAt
   by-state t h =
-      either OfStep (eqb (t .number) 0)
-      (chosen OfStep (endAt s (t .at))
-      (λ e. either OfStep (closes (t .sofar .last)) (ends (ap (endAt s) (sym h) ∙ e) t) (tells t 32 (omega arith, omega arith)))
+      either OfTurn (eqb (t .number) 0)
+      (chosen OfTurn (endAt s (t .at))
+      (λ e. either OfTurn (closes (t .sofar .last)) (ends (ap (endAt s) (sym h) ∙ e) t) (tells t 32 (omega arith, omega arith)))
       (λ e. line-number t _ _ (parts-listed (mayJoin (t .sofar .month) (t .sofar .schedule)) (t .sofar) (t .at) (fieldsAt s (t .at)))))
       (tells t (saidAgain (t .number)) (again-listed (t .number)))
 

@@ -6,10 +6,7 @@ use mathlib.Core.List.{List, [], _∷_}
 use lib.ListN.{length, getD}
 use Rattle.cells.specs.Test.{refused}
 use Rattle.record.specs.declared.Refusal.{Refusal}
-use Rattle.reader.specs.declared.Checked.{Checked}
-use Rattle.reader.specs.declared.Checked.the-variants.{Records, Refused as Not}
-use Rattle.reader.specs.declared.Handed.{Handed}
-use Rattle.reader.specs.declared.Handed.the-variants.{Record as Hands, Refused as Refuses, End}
+use Rattle.reader.specs.Said.{Next, Hands, Refuses, End, Check, Records, Not}
 use Rattle.plain_record.specs.Records.{recordNumbers}
 
 -- Where and why a sheet was refused.
@@ -21,40 +18,40 @@ abbrev pub noRefusal : List ℕ
 noRefusal = 0 ∷ 0 ∷ 0 ∷ 0 ∷ []
 
 -- Checking: the number,
-abbrev pub checkedNumber : Checked → ℕ
+abbrev pub checkedNumber : Check → ℕ
 checkedNumber (Records n) = 0
 checkedNumber (Not f) = f .number
 
 -- how many records,
-abbrev pub checkedRecords : Checked → ℕ → ℕ
+abbrev pub checkedRecords : Check → ℕ → ℕ
 checkedRecords (Records n) before = n
 checkedRecords (Not f) before = before
 
 -- and the refusal.
-abbrev pub checkedRefusal : Checked → List ℕ
+abbrev pub checkedRefusal : Check → List ℕ
 checkedRefusal (Records n) = noRefusal
 checkedRefusal (Not f) = refusalNumbers f
 
 -- One call of the reader: the number, 255 at the end,
-abbrev pub handedNumber : Handed → ℕ
+abbrev pub handedNumber : Next → ℕ
 handedNumber (Hands r) = 0
 handedNumber (Refuses f) = f .number
 handedNumber End = 255
 
 -- the record,
-abbrev pub handedRecord : Handed → List ℕ → List ℕ
+abbrev pub handedRecord : Next → List ℕ → List ℕ
 handedRecord (Hands r) before = recordNumbers r
 handedRecord (Refuses f) before = before
 handedRecord End before = before
 
 -- the refusal,
-abbrev pub handedRefusal : Handed → List ℕ
+abbrev pub handedRefusal : Next → List ℕ
 handedRefusal (Hands r) = noRefusal
 handedRefusal (Refuses f) = refusalNumbers f
 handedRefusal End = noRefusal
 
 -- and the state: "after a refusal it refuses the same again; after the end it says the end again".
-abbrev pub handedState : Handed → List ℕ → List ℕ → List ℕ
+abbrev pub handedState : Next → List ℕ → List ℕ → List ℕ
 handedState (Hands r) after before = after
 handedState (Refuses f) after before = before
 handedState End after before = before

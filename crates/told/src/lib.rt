@@ -7,6 +7,7 @@ use reader::Checked;
 use record::Refusal;
 use schedule::Schedule;
 ghost use mathlib.Core.Path.{_≡_};
+ghost use Rattle.reader.specs.Said.{saidCheck};
 ghost use Rattle.told.specs.States.{scheduleOf, sofarOf, openOf, readerNumbers, readerOf};
 ghost use Rattle.told.specs.Answers.{refusalNumbers, checkedNumber, checkedRecords, checkedRefusal};
 
@@ -91,7 +92,7 @@ pub fn refusal_numbers(f: Refusal) -> [u64; 4]
 }
 
 pub fn checked_number(r: Checked) -> u8
-    ensures { λ n. ⌜ n ≡ checkedNumber r ⌝ }
+    ensures { λ n. ⌜ n ≡ checkedNumber (saidCheck r) ⌝ }
 {
     match r {
         Checked::Records(_) => 0,
@@ -100,7 +101,7 @@ pub fn checked_number(r: Checked) -> u8
 }
 
 pub fn checked_records(r: Checked, before: u64) -> u64
-    ensures { λ n. ⌜ n ≡ checkedRecords r before ⌝ }
+    ensures { λ n. ⌜ n ≡ checkedRecords (saidCheck r) before ⌝ }
 {
     match r {
         Checked::Records(n) => n as u64,
@@ -109,7 +110,7 @@ pub fn checked_records(r: Checked, before: u64) -> u64
 }
 
 pub fn checked_refusal(r: Checked) -> [u64; 4]
-    ensures { λ n. ⌜ n ≡ checkedRefusal r ⌝ }
+    ensures { λ n. ⌜ n ≡ checkedRefusal (saidCheck r) ⌝ }
 {
     match r {
         Checked::Records(_) => [0; 4],

@@ -6,25 +6,23 @@ use Rattle.record.specs.declared.Answer.{Answer}
 use Rattle.record.specs.declared.Answer.the-variants.{Took, Refused as NotTook}
 use Rattle.record.specs.declared.Passed.{Passed}
 use Rattle.record.specs.declared.Passed.the-variants.{On as Along, Refused as Stopped}
+use Rattle.reader.specs.Said.{Next, Hands, Refuses, End as Ends, Turn}
 use Rattle.reader.specs.declared.State.{State}
-use Rattle.reader.specs.declared.Handed.{Handed}
-use Rattle.reader.specs.declared.Handed.the-variants.{Record as Hands, Refused as Refuses, End as Ends}
-use Rattle.reader.specs.declared.Step.{Step}
 use Rattle.reader.specs.declared.Gone.{Gone}
 use Rattle.reader.specs.declared.Gone.the-variants.{On, Refused, End}
 
 -- A record is handed out, and the reader goes on after it.
-abbrev pub movesOn : State → Answer → ℕ → Sofar → Step
+abbrev pub movesOn : State → Answer → ℕ → Sofar → Turn
 movesOn t (Took r) next c = record { next = Hands r; state = record { number = 0; at = next; sofar = c } }
 movesOn t (NotTook f) next c = record { next = Refuses f; state = t }
 
-abbrev pub gone : Handed → State → Gone
+abbrev pub gone : Next → State → Gone
 gone (Hands r) t = On t
 gone (Refuses f) t = Refused f
 gone Ends t = End
 
 -- Of a call,
-abbrev pub goneOf : Step → Gone
+abbrev pub goneOf : Turn → Gone
 goneOf x = gone (x .next) (x .state)
 
 -- and of a line that is passed.

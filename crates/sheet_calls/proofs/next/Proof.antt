@@ -1,7 +1,7 @@
 -- By what the call hands out.
 use mathlib.Core.Path.{_≡_, _∙_, ap, sym}
 use Rattle.reader.specs.Reader.{nextRecord}
-use Rattle.reader.specs.declared.Step.{Step}
+use Rattle.reader.specs.Said.{Turn, saidNext, said}
 use Rattle.reader.proofs.Laws.{again-refused, again-end}
 use Rattle.told.specs.States.{readerNumbers, readerOf}
 use Rattle.sheet_calls.proofs.Kept.{steps-on, steps-refused, steps-end}
@@ -36,26 +36,26 @@ enum-told c = search needs
 returns : tie.Need-returns
 returns c =
     let a = c .before .before .before .before .before .before .before .before .before .before .before .before .before .args in
-    let e : c .before .before .before .before .before .before .before .before .next .result ≡ nextRecord (a .file .now) (readerOf (a .state .now)) =
+    let e : said (c .before .before .before .before .before .before .before .before .next .result) ≡ nextRecord (a .file .now) (readerOf (a .state .now)) =
     c .before .before .before .before .before .before .before .before .next .ensures ∙ (λ i. nextRecord (a .file .now) (c .before .before .before .before .before .before .before .before .before .reader-state .ensures i)) in
-    let h = ap (λ (x : Step). x .next) (sym e) ∙ c .before .before .before .before .before .handed .given .1 in
+    let h = ap (λ (x : Turn). x .next) (sym e) ∙ ap saidNext (c .before .before .before .before .before .handed .given .1) in
     let n = c .before .before .before .reader-numbers .ensures in
-    steps-on _ (a .state .now) (a .numbers .now) _ h _ _ (n .0 ∙ ap (λ (x : Step). readerNumbers (x .state)) e, n .1 ∙ ap (λ (x : Step). x .state) e) (c .before .record-numbers .ensures)
+    steps-on _ (a .state .now) (a .numbers .now) _ h _ _ (n .0 ∙ ap (λ (x : Turn). readerNumbers (x .state)) e, n .1 ∙ ap (λ (x : Turn). x .state) e) (c .before .record-numbers .ensures)
 
 returns-2 : tie.Need-returns-2
 returns-2 c =
     let a = c .before .before .before .before .before .before .before .before .before .before .args in
-    let e : c .before .before .before .before .before .next .result ≡ nextRecord (a .file .now) (readerOf (a .state .now)) =
+    let e : said (c .before .before .before .before .before .next .result) ≡ nextRecord (a .file .now) (readerOf (a .state .now)) =
     c .before .before .before .before .before .next .ensures ∙ (λ i. nextRecord (a .file .now) (c .before .before .before .before .before .before .reader-state .ensures i)) in
-    let h = ap (λ (x : Step). x .next) (sym e) ∙ c .before .before .handed2 .given .1 in
+    let h = ap (λ (x : Turn). x .next) (sym e) ∙ ap saidNext (c .before .before .handed2 .given .1) in
     steps-refused _ (a .state .now) (a .numbers .now) _ h _ (c .refusal-numbers .ensures) (sym (again-refused (a .file .now) (readerOf (a .state .now)) _ h))
 
 returns-3 : tie.Need-returns-3
 returns-3 c =
     let a = c .before .before .before .before .before .before .before .before .before .args in
-    let e : c .before .before .before .before .next .result ≡ nextRecord (a .file .now) (readerOf (a .state .now)) =
+    let e : said (c .before .before .before .before .next .result) ≡ nextRecord (a .file .now) (readerOf (a .state .now)) =
     c .before .before .before .before .next .ensures ∙ (λ i. nextRecord (a .file .now) (c .before .before .before .before .before .reader-state .ensures i)) in
-    let h = ap (λ (x : Step). x .next) (sym e) ∙ c .before .enum-told .given .1 in
+    let h = ap (λ (x : Turn). x .next) (sym e) ∙ ap saidNext (c .before .enum-told .given .1) in
     steps-end _ (a .state .now) (a .numbers .now) h (sym (again-end (a .file .now) (readerOf (a .state .now)) h))
 
 pub next-spec : {M : Type 1} → statement M
