@@ -1,14 +1,14 @@
 -- What holds of the arrays that a call leaves.
 -- Assumes nothing.
 use Prim.Native.Nat.{ℕ}
-use mathlib.Core.Path.{_≡_}
+use mathlib.Core.Path.{_≡_, ap, sym}
 use mathlib.Core.List.{List}
 use Rattle.record.specs.declared.Record.{Record}
 use Rattle.record.specs.declared.Refusal.{Refusal}
-use Rattle.reader.specs.Said.{Hands, Refuses, End, Turn}
+use Rattle.reader.specs.Said.{Next, Hands, Refuses, End, Turn}
 use Rattle.plain_record.specs.Records.{recordNumbers}
 use Rattle.told.specs.States.{readerNumbers, readerOf}
-use Rattle.told.specs.Answers.{refusalNumbers, noRefusal}
+use Rattle.told.specs.Answers.{refusalNumbers, noRefusal, handedState}
 use Rattle.sheet_calls.specs.Calls.{Steps}
 
 -- One call of the reader, by what it hands out: a record and the state after it,
@@ -18,11 +18,15 @@ module _ (x : Turn) (state₀ numbers₀ : List ℕ) where
   steps-on r h state numbers e n =
       record { returns = rw h; refuses = rw h; moves = rw h (e .0); leaves = rw h n; holds = e .1 }
 
+  -- what is no record leaves the state
+  stays : {a : Next} → x .next ≡ a → handedState a (readerNumbers (x .state)) state₀ ≡ handedState (x .next) (readerNumbers (x .state)) state₀
+  stays h = sym (ap (λ (b : Next). handedState b (readerNumbers (x .state)) state₀) h)
+
   -- a refusal, which leaves both arrays as they were,
   pub steps-refused : (f : Refusal) → x .next ≡ Refuses f → (told : List ℕ) → told ≡ refusalNumbers f → readerOf state₀ ≡ x .state →
       Steps x state₀ numbers₀ (f .number) told state₀ numbers₀
-  steps-refused f h told e z = record { returns = rw h; refuses = rw h e; moves = rw h; leaves = rw h; holds = z }
+  steps-refused f h told e z = record { returns = rw h; refuses = rw h e; moves = stays h; leaves = rw h; holds = z }
 
   -- and so does the end.
   pub steps-end : x .next ≡ End → readerOf state₀ ≡ x .state → Steps x state₀ numbers₀ 255 noRefusal state₀ numbers₀
-  steps-end h z = record { returns = rw h; refuses = rw h; moves = rw h; leaves = rw h; holds = z }
+  steps-end h z = record { returns = rw h; refuses = rw h; moves = stays h; leaves = rw h; holds = z }
