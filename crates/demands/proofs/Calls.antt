@@ -24,7 +24,7 @@ use Rattle.record.specs.declared.Answer.the-variants.{Took, Refused}
 use Rattle.reader.specs.Open.{fileFault}
 use Rattle.reader.specs.File.{File, Ending, whole, stopped, on, readLines, readFile}
 use Rattle.reader.specs.Reader.{endingOf, told}
-use Rattle.reader.specs.declared.Handed.the-variants.{Refused as Refuses}
+use Rattle.reader.specs.Said.{Refuses}
 use Rattle.reader.proofs.Lines.{opens}
 
 -- ---- at most a record a line

@@ -15,7 +15,7 @@ use Rattle.record.specs.declared.Refusal.{Refusal}
 use Rattle.reader.specs.File.{readFile}
 use Rattle.reader.specs.Reader.{openFile, nextRecord, call, endingOf, told}
 use Rattle.reader.specs.declared.State.{State}
-use Rattle.reader.specs.declared.Handed.the-variants.{Record as Hands, Refused as Refuses, End}
+use Rattle.reader.specs.Said.{Hands, Refuses, End}
 use Rattle.reader.proofs.Laws as reader
 use Rattle.demands.specs.EachCall.{Answered, NumberAndPlace}
 use Rattle.demands.specs.Numbers.{SetNumber}

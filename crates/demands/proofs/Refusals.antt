@@ -33,7 +33,7 @@ use Rattle.record.specs.declared.Answer.{Answer}
 use Rattle.record.specs.declared.Answer.the-variants.{Took, Refused}
 use Rattle.reader.specs.Reader.{endAt, nextRecord, on as upon}
 use Rattle.reader.specs.declared.State.{State}
-use Rattle.reader.specs.declared.Handed.the-variants.{Refused as Refuses}
+use Rattle.reader.specs.Said.{Refuses}
 use Rattle.entry.proofs.Bridge.{by-refused}
 use Rattle.demands.specs.Numbers.{CodeNumber, RecordNumber, unknown, hopeless, missing, FieldNumber, need, text, value, order, atField, LineRefusal}
 use Rattle.demands.specs.Numbers as numbers

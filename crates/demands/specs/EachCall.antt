@@ -23,7 +23,7 @@ use Rattle.record.specs.declared.Refusal.{Refusal}
 use Rattle.reader.specs.File.{readFile}
 use Rattle.reader.specs.Reader.{openFile, nextRecord, call}
 use Rattle.reader.specs.declared.State.{State}
-use Rattle.reader.specs.declared.Handed.the-variants.{Refused as Refuses}
+use Rattle.reader.specs.Said.{Refuses}
 use Rattle.demands.specs.One.{One}
 use Rattle.demands.specs.Numbers.{UsageNumber, SupplementNumber, RunNumber, DateNumber, DateTextNumber, LineRefusal}
 use Rattle.demands.specs.Refused.{FileRefusal}

@@ -25,6 +25,7 @@ use supplement::Week;
 ghost use mathlib.Core.Path.{_≡_};
 ghost use Prim.Native.Nat.{_<_};
 ghost use lib.ListN.{take};
+ghost use Rattle.reader.specs.Said.{saidCheck};
 ghost use Rattle.reader.specs.File.{checkFile};
 
 // The columns of a drug's name, and of its amount with the space before it.
@@ -41,7 +42,7 @@ struct Bag {
 
 // Checks a sheet, prints its labels, or the line that `report` has for a refusal, and hands back what it is read as.
 pub fn sheet(s: &[u8]) -> Checked
-    ensures { λ r. ⌜ r ≡ checkFile (now (s .entry)) ⌝ }
+    ensures { λ r. ⌜ saidCheck r ≡ checkFile (now (s .entry)) ⌝ }
 {
     let r = reader::check(s);
     match r {

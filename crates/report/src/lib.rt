@@ -2,6 +2,7 @@
 use reader::Checked;
 use record::Refusal;
 ghost use mathlib.Core.Path.{_≡_};
+ghost use Rattle.reader.specs.Said.{saidCheck};
 ghost use Rattle.reader.specs.File.{checkFile};
 
 fn words(text: &[u8]) {
@@ -43,7 +44,7 @@ fn answer(r: Checked) {
 
 // Checks a sheet, prints `ok N`, or `refused` with the number and its place, and hands back what it told.
 pub fn sheet(s: &[u8]) -> Checked
-    ensures { λ r. ⌜ r ≡ checkFile (now (s .entry)) ⌝ }
+    ensures { λ r. ⌜ saidCheck r ≡ checkFile (now (s .entry)) ⌝ }
 {
     let r = reader::check(s);
     answer(r);

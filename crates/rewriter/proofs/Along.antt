@@ -12,10 +12,8 @@ use Rattle.record.specs.declared.Record.{Record}
 use Rattle.record.specs.declared.Refusal.{Refusal}
 use Rattle.reader.specs.File.{File, Ending, whole, stopped, readFile}
 use Rattle.reader.specs.Reader.{openFile, nextRecord, endingOf}
+use Rattle.reader.specs.Said.{Next, Hands, Refuses, End, Turn}
 use Rattle.reader.specs.declared.State.{State as Reader}
-use Rattle.reader.specs.declared.Handed.{Handed}
-use Rattle.reader.specs.declared.Handed.the-variants.{Record as Hands, Refused as Refuses, End}
-use Rattle.reader.specs.declared.Step.{Step}
 use Rattle.reader.proofs.Along.{Tells, by-rest, from-opening}
 use Rattle.reader.proofs.Laws.{moves}
 use Rattle.held.proofs.File.{never-whole}
@@ -81,19 +79,19 @@ module _ (s out : List ℕ) (h : readFile s .ending ≡ whole) (l : length s ≤
 
 module _ (s : List ℕ) (from : Reader) (out : List ℕ) (to : Writer) (w : Left) (p : Puts s from out to w) where
   -- Each record that is handed out is put,
-  pub puts-more : (r : Record) (step : Step) → step ≡ nextRecord s from → step .next ≡ Hands r → (v : Left) → v ≡ putRecord out to r s →
+  pub puts-more : (r : Record) (step : Turn) → step ≡ nextRecord s from → step .next ≡ Hands r → (v : Left) → v ≡ putRecord out to r s →
       Puts s (step .state) (v .buffer) (v .put .state) w
   unfolding putAll
   puts-more r step d h v o =
       by-rest s from (p .rest)
-      (λ e k q. absurd (let m : from .at < nextRecord s from .state .at = moves s from r (ap (λ (x : Step). x .next) (sym d) ∙ h) in
-      let n : nextRecord s from .state .at ≡ from .at = ap (λ (x : Step). x .state .at) k in
+      (λ e k q. absurd (let m : from .at < nextRecord s from .state .at = moves s from r (ap (λ (x : Turn). x .next) (sym d) ∙ h) in
+      let n : nextRecord s from .state .at ≡ from .at = ap (λ (x : Turn). x .state .at) k in
       omega (arith, m, n)))
       (λ r′ g k i q.
-      let same : r ≡ r′ = (let j : Hands r ≡ Hands r′ = sym h ∙ ap (λ (x : Step). x .next) d ∙ k in cc) in
+      let same : r ≡ r′ = (let j : Hands r ≡ Hands r′ = sym h ∙ ap (λ (x : Turn). x .next) d ∙ k in cc) in
       record {
         rest = g;
-        left = subst (λ (x : Step). Tells s (x .state) g) (sym d) i;
+        left = subst (λ (x : Turn). Tells s (x .state) g) (sym d) i;
         ends = ap (λ (f : File). f .ending) (sym q) ∙ p .ends;
         all =
             goes-on v (map (item s) (g .records)) w
@@ -106,10 +104,10 @@ module _ (s : List ℕ) (from : Reader) (out : List ℕ) (to : Writer) (w : Left
       (p .left)
 
   -- an answer that is no record is the end, and nothing is left to put
-  at-end : {P : Type 0} (a : Handed) → nextRecord s from .next ≡ a → ((r : Record) → a ≡ Hands r → ⊥) → (a ≡ End → closeBuffer out to ≡ w → P) → P
+  at-end : {P : Type 0} (a : Next) → nextRecord s from .next ≡ a → ((r : Record) → a ≡ Hands r → ⊥) → (a ≡ End → closeBuffer out to ≡ w → P) → P
   unfolding putAll
   at-end {P = P} a h none give =
-      by-rest s from (p .rest) (λ e k q. by e (ap (λ (x : Step). x .next) k) q) (λ r g k i q. absurd (none r (sym h ∙ k))) (p .left)
+      by-rest s from (p .rest) (λ e k q. by e (ap (λ (x : Turn). x .next) k) q) (λ r g k i q. absurd (none r (sym h ∙ k))) (p .left)
     where
       by : (e : Ending) → nextRecord s from .next ≡ endingOf e → p .rest ≡ record { records = []; ending = e } → P
       by whole k q = give (sym h ∙ k) (ap (λ (f : File). putFrom s (f .records) out to) (sym q) ∙ p .all)

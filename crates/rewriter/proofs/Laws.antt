@@ -12,7 +12,7 @@ use Rattle.record.specs.declared.Record.{Record}
 use Rattle.record.specs.declared.Refusal.{Refusal}
 use Rattle.reader.specs.File.{Ending, whole, stopped, readFile}
 use Rattle.reader.specs.Reader.{endingOf}
-use Rattle.reader.specs.declared.Handed.the-variants.{Record as Hands, Refused as Refuses, End}
+use Rattle.reader.specs.Said.{Hands, Refuses, End}
 use Rattle.rewriter.specs.Rewritten.{Again, nothing, onEnding, rewritten}
 
 -- A sheet that is read to its end is whole,

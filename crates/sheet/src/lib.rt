@@ -5,6 +5,7 @@ use reader::Step;
 use record::Place;
 ghost use mathlib.Core.Path.{_≡_};
 ghost use Rattle.record.specs.Record.{textAt};
+ghost use Rattle.reader.specs.Said.{saidNext, said};
 ghost use Rattle.reader.specs.File.{readFile};
 ghost use Rattle.reader.specs.Reader.{openFile, nextRecord, endingOf};
 ghost use Rattle.sheet.specs.Walk.{hands as handsOf, Ends};
@@ -25,7 +26,7 @@ pub fn open<'a>(file: &'a [u8]) -> Sheet<'a>
 
 // The next record, the refusal or the end, and the state to go on with.
 pub fn next<'a>(r: Sheet<'a>) -> Step
-    ensures { λ s. ⌜ s ≡ nextRecord (now (r .entry .file)) (r .entry .state) ⌝ }
+    ensures { λ s. ⌜ said s ≡ nextRecord (now (r .entry .file)) (r .entry .state) ⌝ }
 {
     reader::next(r.file, r.state)
 }
@@ -49,7 +50,7 @@ pub fn text<'a>(r: Sheet<'a>, p: Place) -> &'a [u8]
 
 // Does a step hand out a record?
 fn hands(s: Step) -> bool
-    ensures { λ r. ⌜ r ≡ handsOf (s .next) ⌝ }
+    ensures { λ r. ⌜ r ≡ handsOf (saidNext (s .next)) ⌝ }
 {
     let answer = s.next;
     match answer {
@@ -61,7 +62,7 @@ fn hands(s: Step) -> bool
 
 // The sheet read to its end: the answer that hands out no record.
 fn last<'a>(r: Sheet<'a>) -> Handed
-    ensures { λ a. ⌜ Ends (now (r .entry .file)) a (r .entry .state) ⌝ }
+    ensures { λ a. ⌜ Ends (now (r .entry .file)) (saidNext a) (r .entry .state) ⌝ }
 {
     let s = next(r);
     if hands(s) {
@@ -74,7 +75,7 @@ fn last<'a>(r: Sheet<'a>) -> Handed
 // How a file ends: the end, or its refusal. A sheet is opened and read to its end. It, `begin` and `step` speak of no sheet, so whoever calls them
 // needs no walk by hand.
 pub fn walk(file: &[u8]) -> Handed
-    ensures { λ r. ⌜ r ≡ endingOf (readFile (now (file .entry)) .ending) ⌝ }
+    ensures { λ r. ⌜ saidNext r ≡ endingOf (readFile (now (file .entry)) .ending) ⌝ }
 {
     last(open(file))
 }
@@ -88,7 +89,7 @@ pub fn begin(file: &[u8]) -> State
 
 // One step of the sheet that is at a state of a file.
 pub fn step(file: &[u8], state: State) -> Step
-    ensures { λ s. ⌜ s ≡ nextRecord (now (file .entry)) state ⌝ }
+    ensures { λ s. ⌜ said s ≡ nextRecord (now (file .entry)) state ⌝ }
 {
     next(Sheet { file, state })
 }

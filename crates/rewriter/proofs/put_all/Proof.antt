@@ -6,7 +6,7 @@ use borrow.Author.Needs.{needs}
 use lib.ListN.{length}
 use Rattle.reader.specs.File.{readFile}
 use Rattle.reader.specs.Reader.{nextRecord}
-use Rattle.reader.specs.declared.Step.{Step}
+use Rattle.reader.specs.Said.{Turn, saidNext, said}
 use Rattle.reader.proofs.Laws.{moves, was-inside}
 use Rattle.writer.specs.Writer.{Left}
 use Rattle.rewriter.proofs.Along.{written, putFrom, Puts, opened-all, puts-opened, puts-more, puts-refused, puts-end}
@@ -44,10 +44,10 @@ loop-less c =
     let s = c .before .before .before .before .before .before .before .before .before .before .before .before .before .before .before .before .before .args .s .now in
     let l = c .before .before .before .before .before .before .before .before .before .loop in
     let r = c .before .before .before .before .before .before .before .before .next in
-    let h = ap (λ (x : Step). x .next) (sym (r .ensures)) ∙ c .before .before .before .before .before .before .handed .given .1 in
+    let h = ap (λ (x : Turn). x .next) (sym (r .ensures)) ∙ ap saidNext (c .before .before .before .before .before .before .handed .given .1) in
     let m : l .from .at < nextRecord s (l .from) .state .at = moves s (l .from) _ h in
     let i : l .from .at < length s = was-inside s (l .from) _ h in
-    let e : r .result .state .at ≡ nextRecord s (l .from) .state .at = ap (λ (x : Step). x .state .at) (r .ensures) in
+    let e : r .result .state .at ≡ nextRecord s (l .from) .state .at = ap (λ (x : Turn). x .state .at) (r .ensures) in
     omega (arith, m, i, e)
 
 loop-again : tie.Need-loop-again Inv-loop μ-loop
@@ -56,7 +56,7 @@ loop-again c =
     let l = c .before .before .before .before .before .before .before .before .before .loop in
     let r = c .before .before .before .before .before .before .before .before .next in
     let w = c .before .before .before .add in
-    (w .kept .0 ∙ l .inv .0, puts-more s (l .from) (l .out) (l .told .state) _ (l .inv .1) _ (r .result) (r .ensures) (c .before .before .before .before .before .before .handed .given .1) _ (w .ensures))
+    (w .kept .0 ∙ l .inv .0, puts-more s (l .from) (l .out) (l .told .state) _ (l .inv .1) _ (said (r .result)) (r .ensures) (ap saidNext (c .before .before .before .before .before .before .handed .given .1)) _ (w .ensures))
 
 enum-told : tie.Need-enum-told Inv-loop μ-loop
 enum-told c = search needs
@@ -67,7 +67,7 @@ same-length c = c .before .before .before .loop .inv .0 ∙ c .before .before .b
 returns : tie.Need-returns Inv-loop μ-loop
 returns c =
     let l = c .before .before .before .loop in
-    puts-refused (c .before .before .before .before .before .before .before .before .before .before .before .args .s .now) (l .from) (l .out) (l .told .state) _ (l .inv .1) _ (ap (λ (x : Step). x .next) (sym (c .before .before .next .ensures)) ∙ c .enum-told .given .1)
+    puts-refused (c .before .before .before .before .before .before .before .before .before .before .before .args .s .now) (l .from) (l .out) (l .told .state) _ (l .inv .1) _ (ap (λ (x : Turn). x .next) (sym (c .before .before .next .ensures)) ∙ ap saidNext (c .enum-told .given .1))
 
 enum-told-2 : tie.Need-enum-told-2 Inv-loop μ-loop
 enum-told-2 c = search needs
@@ -84,7 +84,7 @@ returns-2 c =
     let l = c .before .before .before .before .before .before .before .loop in
     let w = c .before .before .finish in
     let e : record { put = w .result; buffer = w .last .0 } ≡ written (f .args .s .now) (f .args .out .now) =
-    w .ensures ∙ puts-end (f .args .s .now) (l .from) (l .out) (l .told .state) _ (l .inv .1) (ap (λ (x : Step). x .next) (sym (c .before .before .before .before .before .before .next .ensures)) ∙ c .before .before .before .before .enum-told2 .given .1)
+    w .ensures ∙ puts-end (f .args .s .now) (l .from) (l .out) (l .told .state) _ (l .inv .1) (ap (λ (x : Turn). x .next) (sym (c .before .before .before .before .before .before .next .ensures)) ∙ ap saidNext (c .before .before .before .before .enum-told2 .given .1))
     ∙ opened-all (f .args .s .now) (f .args .out .now) (f .pre .0) (f .pre .1) _ (c .before .before .before .before .before .before .before .before .before .before .begin .ensures) in
     (ap (λ (v : Left). v .buffer) e, ap (λ (v : Left). v .put .state .at) e)
 

@@ -46,9 +46,9 @@ use denote.Triple.Cycle.{Stated, Graded, Below, measured, at-on, mutual-elim}
 use denote.Exit.{yes}
 use denote.Triple.Clauses.{ensured, lasts}
 use Rattle.record.specs.declared.Record.{Record}
+use Rattle.reader.specs.Said.{Next as Answer, Hands, Refuses, End, Turn, saidNext, said}
 use Rattle.reader.specs.Reader.{nextRecord}
 use Rattle.reader.specs.declared.Handed.{Handed}
-use Rattle.reader.specs.declared.Handed.the-variants.{Record as Hands, Refused as Refuses, End}
 use Rattle.reader.specs.declared.Step.{Step}
 use Rattle.reader.proofs.Laws.{moves, was-inside}
 use Rattle.reader.proofs.Handed as N
@@ -56,6 +56,7 @@ use Rattle.reader.proofs.Handed.Laws as N′
 use Rattle.reader.proofs.Step as S
 use Rattle.reader.proofs.Step.Laws as S′
 use Rattle.reader.proofs.State.Laws as P′
+use Rattle.sheet.proofs.Laws.{stepOf, said-again, step-is as taken-step}
 use Rattle.sheet.specs.Walk.{hands as handsOf, Ends, here, later as onward}
 use Rattle.sheet.specs.declared.Sheet.{Sheet}
 use Rattle.sheet.proofs.Sheet as T
@@ -86,7 +87,7 @@ holds-false : (y : Bool) → Holds (not y) → y ≡ false
 holds-false true h = absurd h
 holds-false false h = refl
 
-which : (x : Handed) → handsOf x ≡ true → (r : Record) × (x ≡ Hands r)
+which : (x : Answer) → handsOf x ≡ true → (r : Record) × (x ≡ Hands r)
 which (Hands r) h = (r, refl)
 which (Refuses f) h = absurd (let z : _≡_ {A = ℕ} 0 1 = cc in omega arith)
 which End h = absurd (let z : _≡_ {A = ℕ} 0 1 = cc in omega arith)
@@ -145,8 +146,14 @@ module _ {M : Type 1} (𝓤 : URA M) (H : Heap 𝓤) (A : Atoms 𝓤) (W : Given
   abbrev αᵉ : NamedLft
   αᵉ = record { mir = erased; lft = κ }
 
+  abbrev turn : Turn
+  turn = nextRecord (now (d .file)) (d .state)
+
   abbrev found : Step
-  found = nextRecord (now (d .file)) (d .state)
+  found = stepOf turn
+
+  shown : handsOf (saidNext (found .next)) ≡ handsOf (turn .next)
+  shown = ap handsOf (said-again (turn .next))
 
   abbrev Post : Val → SProp 𝓤
   Post = walkOf 𝓤 H A last.ended stayed (last.clauses 𝓤 H A mem run) .post (((κ, tt), (q, tt), tt, (d, tt), (mach ∷ [], tt)), tt)
@@ -167,8 +174,8 @@ module _ {M : Type 1} (𝓤 : URA M) (H : Heap 𝓤) (A : Atoms 𝓤) (W : Given
   goes-next : ent 𝓤 (⋆ 𝓤 H A (‵ Own ∷ (‵ (flft κ q) ⊛ ‵ ftrue) ∷ [])) (Next 𝓤 H A mem run .pre to-next)
   goes-next = qed W (‵ Own ∷ (‵ (flft κ q) ⊛ ‵ ftrue) ∷ []) ∵ nothing ! $ move ! (1 ∷ 0 ∷ []) $ fjoin ! $ move ! (1 ∷ 0 ∷ []) $ join ! $ frame ! $ done !
 
-  next-said : (t : Step) → ent 𝓤 (ensured 𝓤 H A next.ended (next.clauses 𝓤 H A mem run) (κ, tt) (d, tt) tt t) (fact 𝓤 (t ≡ found))
-  next-said t = exE 𝓤 _ (λ ws. snd∗ 𝓤 (sem 𝓤 H A (lasts next.ended (κ, tt) (d, tt) ws)) (fact 𝓤 (t ≡ found)))
+  next-said : (t : Step) → ent 𝓤 (ensured 𝓤 H A next.ended (next.clauses 𝓤 H A mem run) (κ, tt) (d, tt) tt t) (fact 𝓤 (said t ≡ turn))
+  next-said t = exE 𝓤 _ (λ ws. snd∗ 𝓤 (sem 𝓤 H A (lasts next.ended (κ, tt) (d, tt) ws)) (fact 𝓤 (said t ≡ turn)))
 
   -- the call of `hands`
   abbrev to-hands : Asks 𝓤 H A mem run .Ghost
@@ -177,8 +184,8 @@ module _ {M : Type 1} (𝓤 : URA M) (H : Heap 𝓤) (A : Atoms 𝓤) (W : Given
   goes-hands : ent 𝓤 (⋆ 𝓤 H A (‵ OwnS ∷ [])) (Asks 𝓤 H A mem run .pre to-hands)
   goes-hands = qed W (‵ OwnS ∷ []) ∵ nothing ! $ move ! (1 ∷ 0 ∷ []) $ fjoin ! $ nothing ! $ join ! $ frame ! $ done !
 
-  hands-said : (y : Bool) → ent 𝓤 (ensured 𝓤 H A hands.ended (hands.clauses 𝓤 H A mem run) tt (found, tt) tt y) (fact 𝓤 (y ≡ handsOf (found .next)))
-  hands-said y = exE 𝓤 _ (λ ws. snd∗ 𝓤 (sem 𝓤 H A (lasts hands.ended tt (found, tt) ws)) (fact 𝓤 (y ≡ handsOf (found .next))))
+  hands-said : (y : Bool) → ent 𝓤 (ensured 𝓤 H A hands.ended (hands.clauses 𝓤 H A mem run) tt (found, tt) tt y) (fact 𝓤 (y ≡ handsOf (saidNext (found .next))))
+  hands-said y = exE 𝓤 _ (λ ws. snd∗ 𝓤 (sem 𝓤 H A (lasts hands.ended tt (found, tt) ws)) (fact 𝓤 (y ≡ handsOf (saidNext (found .next)))))
 
   -- the call of `after`
   abbrev to-after : After 𝓤 H A mem run .Ghost
@@ -197,10 +204,10 @@ module _ {M : Type 1} (𝓤 : URA M) (H : Heap 𝓤) (A : Atoms 𝓤) (W : Given
   goes-self : (u : Val) → ent 𝓤 (⋆ 𝓤 H A (‵ (B (κ, tt) .own (on d) (u ∷ [])) ∷ (‵ (flft κ q) ⊛ ‵ ftrue) ∷ [])) (Last 𝓤 H A mem run .pre (to-self u))
   goes-self u = qed W (‵ (B (κ, tt) .own (on d) (u ∷ [])) ∷ (‵ (flft κ q) ⊛ ‵ ftrue) ∷ []) ∵ nothing ! $ move ! (1 ∷ 0 ∷ []) $ fjoin ! $ move ! (1 ∷ 0 ∷ []) $ join ! $ frame ! $ done !
 
-  self-said : (a : Handed) → ent 𝓤 (ensured 𝓤 H A last.ended (last.clauses 𝓤 H A mem run) (κ, tt) (on d, tt) tt a) (fact 𝓤 (Ends (now (d .file)) a (found .state)))
-  self-said a = exE 𝓤 _ (λ ws. snd∗ 𝓤 (sem 𝓤 H A (lasts last.ended (κ, tt) (on d, tt) ws)) (fact 𝓤 (Ends (now (d .file)) a (found .state))))
+  self-said : (a : Handed) → ent 𝓤 (ensured 𝓤 H A last.ended (last.clauses 𝓤 H A mem run) (κ, tt) (on d, tt) tt a) (fact 𝓤 (Ends (now (d .file)) (saidNext a) (found .state)))
+  self-said a = exE 𝓤 _ (λ ws. snd∗ 𝓤 (sem 𝓤 H A (lasts last.ended (κ, tt) (on d, tt) ws)) (fact 𝓤 (Ends (now (d .file)) (saidNext a) (found .state))))
 
-  exits : (a : Handed) (w : Val) → Ends (now (d .file)) a (d .state) → ent 𝓤 (⋆ 𝓤 H A (‵ (N.the-row .own a (w ∷ [])) ∷ (‵ (flft κ q) ⊛ ‵ ftrue) ∷ ‵ Own ∷ [])) (Post w)
+  exits : (a : Handed) (w : Val) → Ends (now (d .file)) (saidNext a) (d .state) → ent 𝓤 (⋆ 𝓤 H A (‵ (N.the-row .own a (w ∷ [])) ∷ (‵ (flft κ q) ⊛ ‵ ftrue) ∷ ‵ Own ∷ [])) (Post w)
   exits a w e =
       qed W (‵ (N.the-row .own a (w ∷ [])) ∷ (‵ (flft κ q) ⊛ ‵ ftrue) ∷ ‵ Own ∷ []) ∵
       suffices ! _ (ends-at 𝓤 H A last.ended stayed (last.clauses 𝓤 H A mem run) W (((κ, tt), (q, tt), tt, (d, tt), (mach ∷ [], tt)), tt) w a (tt, tt) (tt, tt)) $ says ! e $
@@ -230,7 +237,7 @@ module _ {M : Type 1} (𝓤 : URA M) (H : Heap 𝓤) (A : Atoms 𝓤) (W : Given
         move ! (0 ∷ 16 ∷ []) $ use2 W (raw (Next 𝓤 H A mem run .pre to-next)) goes-next $
         calls-at ! fm (Next 𝓤 H A mem run) known-next to-next (and-then ! (load ! (from ! (stop !)) (look ! 8 refl)) (no-more !)) (λ u.
         use1 W (later (some (λ (t : Step). ((‵ (flft κ q) ⊛ ‵ ftrue) ⊛ ‵ (S.the-row .own t (u ∷ []))) ⊛ raw (ensured 𝓤 H A next.ended (next.clauses 𝓤 H A mem run) (κ, tt) (d, tt) tt t)))) (id⊢ 𝓤 _) $ await ! tt $ pick ! (λ t.
-        split ! $ move ! (1 ∷ []) $ use1 W (raw (fact 𝓤 (t ≡ found))) (next-said t) $ heard ! (t ≡ found) (λ e. split ! $ rewrite ! 1 (λ (z : Step). ‵ (S.the-row .own z (u ∷ []))) e refl $ move ! (1 ∷ []) $
+        split ! $ move ! (1 ∷ []) $ use1 W (raw (fact 𝓤 (said t ≡ turn))) (next-said t) $ heard ! (said t ≡ turn) (λ e. split ! $ rewrite ! 1 (λ (z : Step). ‵ (S.the-row .own z (u ∷ []))) (taken-step t turn e) refl $ move ! (1 ∷ []) $
         peeks ! S.the-row (Is S.the-row) (shows 𝓤 H A S.the-row) found (u ∷ []) (λ is. drop ! $
         -- [the token; what r owns; _6; …; _5; …; _4; …; _3; …; room for _2; …; _1; …; room for _0; …]
         land ! (from ! (stop !)) (init ! 10 refl (typed-step found u is)) $ rewrite ! 10 (λ (v : Val). ‵ (fat fullShare (step ν τ) l₂ 0 v)) (ap only (S′.lowers .val-is found (u ∷ []) is)) refl $
@@ -238,7 +245,7 @@ module _ {M : Type 1} (𝓤 : URA M) (H : Heap 𝓤) (A : Atoms 𝓤) (W : Given
         owned ! S.the-row (Is S.the-row) (LL.makes S.the-type S′.the-plain 𝓤 H A) found _ (step-is u is) $ use1 W (raw (Asks 𝓤 H A mem run .pre to-hands)) goes-hands $
         calls-at ! fm (Asks 𝓤 H A mem run) known-hands to-hands (and-then ! (load ! (from ! (stop !)) (look ! 11 refl)) (no-more !)) (λ v.
         use1 W (later (some (λ (y : Bool). (‵ ftrue ⊛ ‵ (bool .own y (v ∷ []))) ⊛ raw (ensured 𝓤 H A hands.ended (hands.clauses 𝓤 H A mem run) tt (found, tt) tt y)))) (id⊢ 𝓤 _) $ await ! tt $ pick ! (λ y.
-        split ! $ move ! (1 ∷ []) $ use1 W (raw (fact 𝓤 (y ≡ handsOf (found .next)))) (hands-said y) $ heard ! (y ≡ handsOf (found .next)) (λ h. split ! $ drop ! $
+        split ! $ move ! (1 ∷ []) $ use1 W (raw (fact 𝓤 (y ≡ handsOf (saidNext (found .next))))) (hands-said y) $ heard ! (y ≡ handsOf (saidNext (found .next))) (λ h. split ! $ drop ! $
         peeks ! bool (Is bool) (shows 𝓤 H A bool) y (v ∷ []) (λ isb. drop ! $
         land ! (from ! (stop !)) (init ! 6 refl (bool-lawful 𝓤 H A W .typed y _ isb .0)) $ rewrite ! 6 (λ (x : Val). ‵ (fat fullShare tyBool l₄ 0 x)) (ap only (bool-tells y (v ∷ []) isb)) refl $
         -- [the token; what r owns; _6; …; _5; …; _4; …; _3; …; _2; …; _1; …; room for _0; …]
@@ -256,21 +263,21 @@ module _ {M : Type 1} (𝓤 : URA M) (H : Heap 𝓤) (A : Atoms 𝓤) (W : Given
         land ! (from ! (stop !)) (init ! 5 refl (LL.lawful (T.the-type αᵉ) (T′.the-laws αᵉ) 𝓤 H A W .typed (on d) _ is₁ .0)) $
         -- `last`, at what is left
         use2 W (raw (Last 𝓤 H A mem run .pre (to-self w))) (goes-self w) $
-        calls-from ! fm (raw (Last 𝓤 H A mem run .pre (to-self w))) (w ∷ []) (Last 𝓤 H A mem run .post (to-self w)) (self (to-self w) (less d (sym h ∙ holds-true y more)))
+        calls-from ! fm (raw (Last 𝓤 H A mem run .pre (to-self w))) (w ∷ []) (Last 𝓤 H A mem run .post (to-self w)) (self (to-self w) (less d (sym (h ∙ shown) ∙ holds-true y more)))
         (and-then ! (load ! (from ! (stop !)) (look ! 4 refl)) (no-more !)) (λ w′.
         use1 W (later (some (λ (a : Handed). ((‵ (flft κ q) ⊛ ‵ ftrue) ⊛ ‵ (N.the-row .own a (w′ ∷ []))) ⊛ raw (ensured 𝓤 H A last.ended (last.clauses 𝓤 H A mem run) (κ, tt) (on d, tt) tt a)))) (id⊢ 𝓤 _) $ await ! tt $ pick ! (λ a.
-        split ! $ move ! (1 ∷ []) $ use1 W (raw (fact 𝓤 (Ends (now (d .file)) a (found .state)))) (self-said a) $ heard ! (Ends (now (d .file)) a (found .state)) (λ en. split ! $ move ! (1 ∷ []) $
+        split ! $ move ! (1 ∷ []) $ use1 W (raw (fact 𝓤 (Ends (now (d .file)) (saidNext a) (found .state)))) (self-said a) $ heard ! (Ends (now (d .file)) (saidNext a) (found .state)) (λ en. split ! $ move ! (1 ∷ []) $
         peeks ! N.the-row (Is N.the-row) (shows 𝓤 H A N.the-row) a (w′ ∷ []) (λ isa.
         -- [the result; the token; what r owns; _6; …; _5; …; _4; …; _3; …; _2; …; _1; …; room for _0; …]
         land ! (from ! (stop !)) (init ! 15 refl (typed a w′ isa)) $ returns-within ! Post refl (look ! 15 refl) $
         forget ! 3 refl $ forget ! 5 refl $ forget ! 7 refl $ forget ! 9 refl $ forget ! 11 refl $ forget ! 13 refl $ forget ! 15 refl $
         move ! (15 ∷ 16 ∷ []) $ free1 ! $ move ! (13 ∷ 14 ∷ []) $ free1 ! $ move ! (11 ∷ 12 ∷ []) $ free1 ! $ move ! (9 ∷ 10 ∷ []) $ free1 ! $ move ! (7 ∷ 8 ∷ []) $ free1 ! $ move ! (5 ∷ 6 ∷ []) $ free1 ! $ move ! (3 ∷ 4 ∷ []) $ free1 ! $ free0 ! $
-        by ! (exits a w′ (onward (sym h ∙ holds-true y more) en)))))))))))
+        by ! (exits a w′ (onward (sym (h ∙ shown) ∙ holds-true y more) en)))))))))))
         (λ ended.
         assigns ! (of-opd ! (load ! (from ! (fld ! refl (stop !))) (look-in ! 10 (sub ! 0 refl (whole !))))) (from ! (stop !)) (init ! 14 refl (typed (found .next) _ (next-is u is))) $
         returns-within ! Post refl (look ! 14 refl) $ forget ! 6 refl $ forget ! 8 refl $ forget ! 10 refl $ forget ! 12 refl $ forget ! 14 refl $
         move ! (14 ∷ 15 ∷ []) $ free1 ! $ move ! (12 ∷ 13 ∷ []) $ free1 ! $ move ! (10 ∷ 11 ∷ []) $ free1 ! $ move ! (8 ∷ 9 ∷ []) $ free1 ! $ move ! (6 ∷ 7 ∷ []) $ free1 ! $ move ! (4 ∷ 5 ∷ []) $ free1 ! $ move ! (2 ∷ 3 ∷ []) $ free1 ! $ free0 ! $
-        owned ! N.the-row (Is N.the-row) (EL.makes N.the-type N′.the-plain 𝓤 H A) (found .next) _ (next-is u is) $ by ! (exits (found .next) (N′.lowered (found .next)) (here (sym h ∙ holds-false y ended) refl))))))))))))))))))
+        owned ! N.the-row (Is N.the-row) (EL.makes N.the-type N′.the-plain 𝓤 H A) (found .next) _ (next-is u is) $ by ! (exits (found .next) (N′.lowered (found .next)) (here (sym (h ∙ shown) ∙ holds-false y ended) (said-again (turn .next))))))))))))))))))))
 
 module _ {M : Type 1} (𝓤 : URA M) (H : Heap 𝓤) (A : Atoms 𝓤) (W : Given 𝓤 H A) (mem : Memory → SProp 𝓤) (run : Routine → Fun 𝓤) (𝓣 : Tables 𝓤 H)
     (known-next : Triple 𝓤 (𝓣 .C #sheet·next) (Next 𝓤 H A mem run)) (known-hands : Triple 𝓤 (𝓣 .C #sheet·hands) (Asks 𝓤 H A mem run)) (known-after : Triple 𝓤 (𝓣 .C #sheet·after) (After 𝓤 H A mem run)) where

@@ -39,6 +39,7 @@ use denote.Triple.Table.{entered, cited}
 use denote.Triple.Walked.{says, Stays, stay-none, stay-none-slice, walkOf, goes-none, goes-none-slice, Walks, ends-at, walked, walk-meets}
 use denote.Exit.{yes}
 use denote.Triple.Clauses.{ensured, lasts}
+use Rattle.reader.specs.Said.{Turn, said}
 use Rattle.reader.specs.Reader.{nextRecord}
 use Rattle.sheet.specs.declared.Sheet.{Sheet}
 use Rattle.reader.specs.declared.State.{State}
@@ -85,7 +86,7 @@ module _ {M : Type 1} (𝓤 : URA M) (H : Heap 𝓤) (A : Atoms 𝓤) (W : Given
   abbrev mach : Val
   mach = vstruct (vcons v (vcons (P′.lowered t₀) vnil))
 
-  abbrev found : Step
+  abbrev found : Turn
   found = nextRecord (now s) t₀
 
   -- the struct's type as the signature of `next` has it
@@ -128,10 +129,10 @@ module _ {M : Type 1} (𝓤 : URA M) (H : Heap 𝓤) (A : Atoms 𝓤) (W : Given
       -- [the sheet; both; the token]
       move ! (0 ∷ 2 ∷ []) $ use2 W (raw (Next 𝓤 H A mem run .pre to-next)) asked $ frame ! $ done !
 
-  next-said : (t : Step) → ent 𝓤 (ensured 𝓤 H A next.ended (next.clauses 𝓤 H A mem run) (κ, tt) (made, tt) tt t) (fact 𝓤 (t ≡ found))
-  next-said t = exE 𝓤 _ (λ ws. snd∗ 𝓤 (sem 𝓤 H A (lasts next.ended (κ, tt) (made, tt) ws)) (fact 𝓤 (t ≡ found)))
+  next-said : (t : Step) → ent 𝓤 (ensured 𝓤 H A next.ended (next.clauses 𝓤 H A mem run) (κ, tt) (made, tt) tt t) (fact 𝓤 (said t ≡ found))
+  next-said t = exE 𝓤 _ (λ ws. snd∗ 𝓤 (sem 𝓤 H A (lasts next.ended (κ, tt) (made, tt) ws)) (fact 𝓤 (said t ≡ found)))
 
-  exits : (t : Step) (u : Val) → t ≡ found → ent 𝓤 (⋆ 𝓤 H A (‵ (S.the-row .own t (u ∷ [])) ∷ (‵ (flft κ q) ⊛ ‵ ftrue) ∷ ‵ Both ∷ [])) (Post u)
+  exits : (t : Step) (u : Val) → said t ≡ found → ent 𝓤 (⋆ 𝓤 H A (‵ (S.the-row .own t (u ∷ [])) ∷ (‵ (flft κ q) ⊛ ‵ ftrue) ∷ ‵ Both ∷ [])) (Post u)
   exits t u e =
       qed W (‵ (S.the-row .own t (u ∷ [])) ∷ (‵ (flft κ q) ⊛ ‵ ftrue) ∷ ‵ Both ∷ []) ∵
       suffices ! _ (ends-at 𝓤 H A steps.ended stayed (steps.clauses 𝓤 H A mem run) W (((κ, tt), (q, tt), tt, (s, (t₀, tt)), at), tt) u t (tt, (tt, tt)) (tt, (tt, tt))) $ says ! e $
@@ -146,7 +147,7 @@ module _ {M : Type 1} (𝓤 : URA M) (H : Heap 𝓤) (A : Atoms 𝓤) (W : Given
         move ! (8 ∷ []) $ use1 W (raw (Next 𝓤 H A mem run .pre to-next) ⊛ ‵ Both) goes-next $ split ! $
         calls-at ! fm (Next 𝓤 H A mem run) known to-next (and-then ! (load ! (from ! (stop !)) (look ! 2 refl)) (no-more !)) (λ u.
         use1 W (later (some (λ (t : Step). ((‵ (flft κ q) ⊛ ‵ ftrue) ⊛ ‵ (S.the-row .own t (u ∷ []))) ⊛ raw (ensured 𝓤 H A next.ended (next.clauses 𝓤 H A mem run) (κ, tt) (made, tt) tt t)))) (id⊢ 𝓤 _) $ await ! tt $ pick ! (λ t.
-        split ! $ move ! (1 ∷ []) $ use1 W (raw (fact 𝓤 (t ≡ found))) (next-said t) $ heard ! (t ≡ found) (λ e. split ! $ move ! (1 ∷ []) $
+        split ! $ move ! (1 ∷ []) $ use1 W (raw (fact 𝓤 (said t ≡ found))) (next-said t) $ heard ! (said t ≡ found) (λ e. split ! $ move ! (1 ∷ []) $
         -- [the result; the token; what was passed owns; _3; …; _2; …; _1; …; room for _0; …]
         peeks ! S.the-row (Is S.the-row) (shows 𝓤 H A S.the-row) t (u ∷ []) (λ is.
         land ! (from ! (stop !)) (init ! 9 refl (typed t u is)) $

@@ -38,6 +38,7 @@ use denote.Triple.Table.{entered, cited}
 use denote.Triple.Walked.{says, Stays, stay-none-slice, walkOf, goes-none-slice, Walks, ends-at, walked, walk-meets}
 use denote.Exit.{yes}
 use denote.Triple.Clauses.{ensured, lasts}
+use Rattle.reader.specs.Said.{Next as Answer, saidNext}
 use Rattle.reader.specs.File.{readFile}
 use Rattle.reader.specs.Reader.{openFile, endingOf}
 use Rattle.sheet.specs.declared.Sheet.{Sheet}
@@ -88,7 +89,7 @@ module _ {M : Type 1} (𝓤 : URA M) (H : Heap 𝓤) (A : Atoms 𝓤) (W : Given
   abbrev made : Sheet
   made = record { file = s; state = openFile (now s) }
 
-  abbrev found : Handed
+  abbrev found : Answer
   found = endingOf (readFile (now s) .ending)
 
   -- the struct's type as a local of a body has it
@@ -121,10 +122,10 @@ module _ {M : Type 1} (𝓤 : URA M) (H : Heap 𝓤) (A : Atoms 𝓤) (W : Given
   goes-last : (r : Sheet) (u : Val) → ent 𝓤 (⋆ 𝓤 H A (‵ (B (κ, tt) .own r (u ∷ [])) ∷ (‵ (flft κ q) ⊛ ‵ ftrue) ∷ [])) (Last 𝓤 H A mem run .pre (to-last r u))
   goes-last r u = qed W (‵ (B (κ, tt) .own r (u ∷ [])) ∷ (‵ (flft κ q) ⊛ ‵ ftrue) ∷ []) ∵ nothing ! $ move ! (1 ∷ 0 ∷ []) $ fjoin ! $ move ! (1 ∷ 0 ∷ []) $ join ! $ frame ! $ done !
 
-  last-said : (r : Sheet) (t : Handed) → ent 𝓤 (ensured 𝓤 H A last.ended (last.clauses 𝓤 H A mem run) (κ, tt) (r, tt) tt t) (fact 𝓤 (Ends (now (r .file)) t (r .state)))
-  last-said r t = exE 𝓤 _ (λ ws. snd∗ 𝓤 (sem 𝓤 H A (lasts last.ended (κ, tt) (r, tt) ws)) (fact 𝓤 (Ends (now (r .file)) t (r .state))))
+  last-said : (r : Sheet) (t : Handed) → ent 𝓤 (ensured 𝓤 H A last.ended (last.clauses 𝓤 H A mem run) (κ, tt) (r, tt) tt t) (fact 𝓤 (Ends (now (r .file)) (saidNext t) (r .state)))
+  last-said r t = exE 𝓤 _ (λ ws. snd∗ 𝓤 (sem 𝓤 H A (lasts last.ended (κ, tt) (r, tt) ws)) (fact 𝓤 (Ends (now (r .file)) (saidNext t) (r .state))))
 
-  exits : (t : Handed) (u : Val) → t ≡ found → ent 𝓤 (⋆ 𝓤 H A (‵ (N.the-row .own t (u ∷ [])) ∷ (‵ (flft κ q) ⊛ ‵ ftrue) ∷ ‵ Own ∷ [])) (Post u)
+  exits : (t : Handed) (u : Val) → saidNext t ≡ found → ent 𝓤 (⋆ 𝓤 H A (‵ (N.the-row .own t (u ∷ [])) ∷ (‵ (flft κ q) ⊛ ‵ ftrue) ∷ ‵ Own ∷ [])) (Post u)
   exits t u e =
       qed W (‵ (N.the-row .own t (u ∷ [])) ∷ (‵ (flft κ q) ⊛ ‵ ftrue) ∷ ‵ Own ∷ []) ∵
       suffices ! _ (ends-at 𝓤 H A walks.ended stayed (walks.clauses 𝓤 H A mem run) W (((κ, tt), (q, tt), tt, (s, tt), (v ∷ [], tt)), tt) u t (tt, tt) (tt, tt)) $ says ! e $
@@ -145,12 +146,12 @@ module _ {M : Type 1} (𝓤 : URA M) (H : Heap 𝓤) (A : Atoms 𝓤) (W : Given
         use2 W (raw (Last 𝓤 H A mem run .pre (to-last r u))) (goes-last r u) $
         calls-at ! fm (Last 𝓤 H A mem run) known-last (to-last r u) (and-then ! (load ! (from ! (stop !)) (look ! 2 refl)) (no-more !)) (λ u′.
         use1 W (later (some (λ (t : Handed). ((‵ (flft κ q) ⊛ ‵ ftrue) ⊛ ‵ (N.the-row .own t (u′ ∷ []))) ⊛ raw (ensured 𝓤 H A last.ended (last.clauses 𝓤 H A mem run) (κ, tt) (r, tt) tt t)))) (id⊢ 𝓤 _) $ await ! tt $ pick ! (λ t.
-        split ! $ move ! (1 ∷ []) $ use1 W (raw (fact 𝓤 (Ends (now (r .file)) t (r .state)))) (last-said r t) $ heard ! (Ends (now (r .file)) t (r .state)) (λ e′. split ! $ move ! (1 ∷ []) $
+        split ! $ move ! (1 ∷ []) $ use1 W (raw (fact 𝓤 (Ends (now (r .file)) (saidNext t) (r .state)))) (last-said r t) $ heard ! (Ends (now (r .file)) (saidNext t) (r .state)) (λ e′. split ! $ move ! (1 ∷ []) $
         -- [the result; the token; what s owns; _2; …; _1; …; room for _0; …]
         peeks ! N.the-row (Is N.the-row) (shows 𝓤 H A N.the-row) t (u′ ∷ []) (λ is′.
         land ! (from ! (stop !)) (init ! 7 refl (typed t u′ is′)) $
         returns ! (look ! 7 refl) $ forget ! 3 refl $ forget ! 5 refl $ forget ! 7 refl $ move ! (7 ∷ 8 ∷ []) $ free1 ! $ move ! (5 ∷ 6 ∷ []) $ free1 ! $ move ! (3 ∷ 4 ∷ []) $ free1 ! $ free0 ! $
-        by ! (exits t u′ (ends-file (now s) t (subst (λ (x : Sheet). Ends (now (x .file)) t (x .state)) e e′))))))))))))))
+        by ! (exits t u′ (ends-file (now s) (saidNext t) (subst (λ (x : Sheet). Ends (now (x .file)) (saidNext t) (x .state)) e e′))))))))))))))
 
 module _ {M : Type 1} (𝓤 : URA M) (H : Heap 𝓤) (A : Atoms 𝓤) (W : Given 𝓤 H A) (mem : Memory → SProp 𝓤) (run : Routine → Fun 𝓤) where
   goes-through : (C : Calls 𝓤 H) (Λ : Loops 𝓤 H) → FmC 𝓤 H (W .laws) C → Triple 𝓤 (C #sheet·open) (Opening 𝓤 H A mem run) → Triple 𝓤 (C #sheet·last) (Last 𝓤 H A mem run)
