@@ -2,6 +2,7 @@
 // A sheet that is taken is written again too, and a line of its own tells whether that gave the same bytes; each of its codes is written again
 // by itself, and a last line tells how many came out otherwise. After the word `labels` a name asks for the sheet's bag labels instead.
 mod codes;
+
 use codes::Again;
 use libc::STDOUT_FILENO;
 use reader::Checked;
