@@ -64,11 +64,14 @@ fn hands(s: Step) -> bool
 fn last<'a>(r: Sheet<'a>) -> Handed
     ensures { λ a. ⌜ Ends (now (r .entry .file)) (saidNext a) (r .entry .state) ⌝ }
 {
-    let s = next(r);
-    if hands(s) {
-        return last(after(r, s));
-    } else {
-        return s.next;
+    let mut t = r;
+    loop {
+        let s = next(t);
+        if hands(s) {
+            t = after(t, s);
+        } else {
+            return s.next;
+        }
     }
 }
 
