@@ -37,7 +37,7 @@ use Rattle.record.specs.declared.Answer.the-variants.{Took, Refused}
 use Rattle.reader.specs.Open.{versionLine, fileFault}
 use Rattle.reader.specs.File.{File, stopped, linesOf, on, readLines, readFile, numberOf}
 use Rattle.reader.specs.Reader.{openFile, call, endingOf}
-use Rattle.reader.specs.declared.Handed.the-variants.{Refused as Refuses}
+use Rattle.reader.specs.Said.{Refuses}
 use Rattle.reader.proofs.Lines.{opens, lines-of}
 use Rattle.reader.proofs.Laws as reader
 use Rattle.reader.proofs.Order.{leaves-number}
