@@ -4,7 +4,6 @@ use Prim.Native.Nat.{ℕ}
 use mathlib.Core.Path.{_≡_}
 use mathlib.Core.Bool.{Bool, true, false}
 use mathlib.Core.List.{List}
-use Rattle.record.specs.declared.Record.{Record}
 use Rattle.reader.specs.Reader.{nextRecord}
 use Rattle.reader.specs.Said.{Next, Hands, Refuses, End}
 use Rattle.reader.specs.declared.State.{State}

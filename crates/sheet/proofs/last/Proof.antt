@@ -18,7 +18,7 @@ use base.Logic.{SProp, ent, sep, emp, via, fst∗, snd∗, exE, id⊢}
 use base.Fml.{Lft, Share, Fml, ftrue, fat, froom, fdies, flft}
 use prog.Memory.{Memory}
 use prog.Routine.{Routine}
-use prog.Wp.{Heap, Calls, Loops, WpFn, Tables, afterTurn}
+use prog.Wp.{Heap, WpFn, Tables, afterTurn}
 use ghost.Atoms.{Atoms, sem}
 use contract.Lifetimes.{Lfts}
 use contract.Monad.{Fun, fact}
