@@ -1,15 +1,18 @@
--- What a call of the reader returns is 0, 255 or one of document 01's numbers, whatever the file and the state, also one that no call gave.
+-- What a call of the reader returns is 0, 255 or one of document 01's numbers, whatever the file and the state, also one that no call gave; what
+-- was never opened is told 24.
 -- Assumes nothing.
-use Prim.Native.Nat.{ℕ, _+_, _≤_}
+use Prim.Native.Nat.{ℕ, zero, suc, _+_, _-_, _≤_}
+use native.Mathlib.Nat.{min-eq-left, min-eq-right}
 use native.Mathlib.Omega.{arith}
-use mathlib.Core.Path.{_≡_, refl, _∙_, ap, sym}
+use mathlib.Core.Path.{_≡_, refl, _∙_, ap, sym, subst}
 use mathlib.Core.Bool.{Bool, true, false, _&&_}
 use mathlib.Core.List.{List, [], _∷_}
-use borrow.Author.Tests.{eqb-false, leb-true}
+use borrow.Author.Tests.{eqb-false, leb-true, leb-false, eq-eqb, ne-eqb, le-leb}
 use lib.Dec.{eqb, leb, ltb}
 use lib.ListN.{length, getD, drop}
 use Rattle.cells.specs.Test.{first}
 use Rattle.cells.specs.declared.Fault.{Fault}
+use Rattle.cells.proofs.Split.{split as cases}
 use Rattle.cells.proofs.Alike.{and-left, and-right}
 use Rattle.supplement.specs.declared.Supplement.{Supplement}
 use Rattle.order.specs.Order.{among, records}
@@ -33,7 +36,7 @@ use Rattle.reader.specs.Reader as reader
 use Rattle.reader.specs.Said.{End, Turn}
 use Rattle.reader.proofs.Lines.{end-there}
 use Rattle.plain.proofs.Read.{either, chosen}
-use Rattle.told.specs.States.{readerOf}
+use Rattle.told.specs.States.{openOf, given, readerOf}
 use Rattle.told.specs.Answers.{handedNumber, Returned, handed, ended, refuses}
 
 -- 0, which says that nothing is refused, or a number for a file
@@ -153,3 +156,45 @@ module _ (s n : List ℕ) where
   -- For every file and every state, also one that no call gave.
   pub always-a-number : Returned s n (handedNumber (nextRecord s (readerOf n) .next))
   always-a-number = by-state (readerOf n) refl
+
+-- ---- a reader that was never opened
+-- what it says is 24
+not-kept : (k : ℕ) → (20 ≤ k → k ≤ 22 → ⊥) → saidAgain k ≡ 24
+unfolding saidAgain
+not-kept k h =
+    cases (leb 20 k) (λ b. cases (leb k 22) (λ d. absurd (h (leb-true 20 k b) (leb-true k 22 d))) (λ d. rw (b, d))) (λ b. rw b)
+
+positive : (m : ℕ) → (m ≡ 0 → ⊥) → m - 1 ≡ 0 → m ≡ 1
+positive zero n e = absurd (n refl)
+positive (suc m) n e = omega arith
+
+-- a number that is not open, and no refusal of opening
+abbrev Closed : ℕ → Type 0
+Closed k = (eqb k 0 ≡ false) × (saidAgain k ≡ 24)
+
+module _ (m : ℕ) (h : given m ≡ false) where
+  not-open : m ≡ 1 → ⊥
+  not-open e = let t : given m ≡ true = rw (eq-eqb m 1 e) in let z : _≡_ {A = ℕ} 0 1 = cc in omega arith
+
+  not-refused : 21 ≤ m → m ≤ 23 → ⊥
+  not-refused a b =
+      let t : given m ≡ true = rw (ne-eqb m 1 not-open, le-leb 21 m a, le-leb m 23 b) in
+      let z : _≡_ {A = ℕ} 0 1 = cc in
+      omega arith
+
+  -- so is one that no call left
+  closed : Closed (openOf m)
+  unfolding openOf
+  closed =
+      chosen Closed (eqb m 0) (λ z. (refl, not-kept 24 (λ a b. omega arith)))
+      (λ z. let n : m ≡ 0 → ⊥ = eqb-false m 0 z in
+      cases (leb (m - 1) 255)
+      (λ a. subst Closed (sym (min-eq-left (leb-true (m - 1) 255 a)))
+      (ne-eqb (m - 1) 0 (λ e. not-open (positive m n e)), not-kept (m - 1) (λ b d. not-refused (omega arith) (omega arith))))
+      (λ a. let l : 255 ≤ m - 1 = omega (arith, leb-false (m - 1) 255 a) in
+      subst Closed (sym (min-eq-right l)) (refl, not-kept 255 (λ b d. omega arith))))
+
+-- A state whose second number no call leaves, as that of zeros, was never opened: it is told 24, at the place that it names, and stays.
+pub never-opened : (s n : List ℕ) → given (getD n 1 0) ≡ false → nextRecord s (readerOf n) ≡ reader.refuses (readerOf n) 24
+unfolding nextRecord
+never-opened s n h = let c = closed (getD n 1 0) h in rw (c .0, c .1)

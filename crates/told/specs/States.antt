@@ -1,9 +1,9 @@
 -- The state of a reader as eleven numbers. The first is where it is, an offset in the file; the second is 1 where it is open.
 -- Assumes nothing.
 use Prim.Native.Nat.{ℕ, _+_, _-_}
-use mathlib.Core.Bool.{cond}
+use mathlib.Core.Bool.{Bool, cond, _&&_, _||_}
 use mathlib.Core.List.{List, [], _∷_}
-use lib.Dec.{eqb}
+use lib.Dec.{eqb, leb}
 use lib.ListN.{getD}
 use Rattle.schedule.specs.declared.Schedule.{Schedule}
 use Rattle.field.specs.declared.Sofar.{Sofar}
@@ -19,6 +19,10 @@ sofarNumbers c = c .last ∷ c .month ∷ c .rp .0 ∷ c .drug .0 ∷ c .supplem
 -- one that was refused by 20, 21 or 22, and 0 is one that was never opened.
 abbrev pub readerNumbers : Reader → List ℕ
 readerNumbers t = t .at ∷ (t .number + 1) ∷ sofarNumbers (t .sofar)
+
+-- No call leaves another second number than these.
+abbrev pub given : ℕ → Bool
+given n = eqb n 1 || (leb 21 n && leb n 23)
 
 -- Back: the supplements of the RP,
 abbrev pub scheduleOf : List ℕ → Schedule
