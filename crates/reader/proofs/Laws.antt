@@ -101,6 +101,12 @@ module _ (s : List ℕ) (t : State) where
   pub moves : (r : Record) → nextRecord s t .next ≡ Hands r → t .at < nextRecord s t .state .at
   moves r h = handed r h (λ n z l m e. rw e m)
 
+  -- It is open after that, too.
+  pub still-open : (r : Record) → nextRecord s t .next ≡ Hands r → nextRecord s t .state .number ≡ 0
+  still-open r h =
+      by-call s t (λ f e. absurd (let i = ap nextOf e in let z : _≡_ {A = ℕ} 0 1 = cc in omega arith))
+      (λ z i c e. absurd (let i = ap nextOf e in let z : _≡_ {A = ℕ} 0 1 = cc in omega arith)) (λ q n z l m e. ap (λ (w : Turn). w .state .number) e)
+
   -- The end is told by a reader that was not refused, at the 1Ah of the file, after a record that a sheet may end with; in whatever state.
   pub was-at-end : nextRecord s t .next ≡ End → Ends s t
   was-at-end h =

@@ -99,15 +99,20 @@ opens s h =
     let w : WellFramed s = framed s .0 (eqb-true (frameFault s .number) 0 (b .0)) in
     from-framed s (w .lines) (w .some) (w .plain) (w .bytes) (eqs-eq (take 7 s) (bytes "JAHIS5" ++ (0x0d ∷ [])) (c .0))
 
--- The tests of the whole file tell 20, 21 or 22, which a reader says again.
-pub kept : (s : List ℕ) → (fileFault s .number ≡ 0 → ⊥) → saidAgain (fileFault s .number) ≡ fileFault s .number
-unfolding fileFault first saidAgain
-kept s z =
+-- The tests of the whole file tell 20, 21 or 22,
+pub told-within : (s : List ℕ) → (fileFault s .number ≡ 0 → ⊥) → (20 ≤ fileFault s .number) × (fileFault s .number ≤ 22)
+unfolding fileFault first
+told-within s z =
     cases (leb (length s) 16384)
     (λ a. cases (eqb (frameFault s .number) 0)
-    (λ b. cases (versionLine s) (λ d. absurd (simp (a, b, d) at z refl)) (λ d. simp (a, b, d)))
-    (λ b. simp (a, b)))
-    (λ a. simp a)
+    (λ b. cases (versionLine s) (λ d. absurd (simp (a, b, d) at z refl)) (λ d. simp (a, b, d) (omega arith, omega arith)))
+    (λ b. simp (a, b) (omega arith, omega arith)))
+    (λ a. simp a (omega arith, omega arith))
+
+-- which a reader says again.
+pub kept : (s : List ℕ) → (fileFault s .number ≡ 0 → ⊥) → saidAgain (fileFault s .number) ≡ fileFault s .number
+unfolding saidAgain
+kept s z = let w = told-within s z in rw (le-leb 20 _ (w .0), le-leb _ 22 (w .1))
 
 -- ---- the line at an offset
 head-of : (s : List ℕ) (at : ℕ) → getD s at 0 ≡ getD (drop at s) 0 0

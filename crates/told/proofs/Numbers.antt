@@ -30,11 +30,13 @@ use Rattle.record.specs.declared.Refusal.{Refusal}
 use Rattle.record.specs.declared.Answer.{Answer}
 use Rattle.record.specs.declared.Answer.the-variants.{Took, Refused}
 use Rattle.record_line.specs.Line.{recordNumber, readFields, readParts, lineAfter, lineAt}
-use Rattle.reader.specs.Reader.{endAt, saidAgain, on, nextRecord}
+use Rattle.reader.specs.Reader.{openFile, endAt, saidAgain, on, nextRecord}
 use Rattle.reader.specs.declared.State.{State}
 use Rattle.reader.specs.Reader as reader
-use Rattle.reader.specs.Said.{End, Turn}
-use Rattle.reader.proofs.Lines.{end-there}
+use Rattle.reader.specs.Said.{Hands, End, Turn}
+use Rattle.reader.specs.Open.{fileFault}
+use Rattle.reader.proofs.Lines.{told-within, end-there}
+use Rattle.reader.proofs.Laws.{still-open}
 use Rattle.plain.proofs.Read.{either, chosen}
 use Rattle.told.specs.States.{openOf, given, readerOf}
 use Rattle.told.specs.Answers.{handedNumber, Returned, handed, ended, refuses}
@@ -198,3 +200,18 @@ module _ (m : ℕ) (h : given m ≡ false) where
 pub never-opened : (s n : List ℕ) → given (getD n 1 0) ≡ false → nextRecord s (readerOf n) ≡ reader.refuses (readerOf n) 24
 unfolding nextRecord
 never-opened s n h = let c = closed (getD n 1 0) h in rw (c .0, c .1)
+
+-- A call leaves no such number: opening,
+pub given-opened : (s : List ℕ) → given (openFile s .number + 1) ≡ true
+unfolding openFile
+given-opened s =
+    cases (eqb (fileFault s .number) 0) (λ e. simp e)
+    (λ e. let w = told-within s (eqb-false (fileFault s .number) 0 e) in
+    let k : ℕ = fileFault s .number + 1 in
+    let a : 21 ≤ fileFault s .number + 1 = omega (arith, w .0) in
+    let b : fileFault s .number + 1 ≤ 23 = omega (arith, w .1) in
+    simp e (rw (ne-eqb k 1 (λ h. omega (arith, a)), le-leb 21 k a, le-leb k 23 b)))
+
+-- and a record that is handed out.
+pub given-after : (s : List ℕ) (t : State) (r : Record) → nextRecord s t .next ≡ Hands r → given (nextRecord s t .state .number + 1) ≡ true
+given-after s t r h = ap (λ (n : ℕ). given (n + 1)) (still-open s t r h)
