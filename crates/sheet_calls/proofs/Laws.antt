@@ -1,4 +1,5 @@
--- A record that was read is written again; what a call returns is one of few numbers; what was never opened is told so. The statements of the calls give each answer as a function of what is lent.
+-- A record that was read is written again; what a call returns is one of few numbers; what was never opened is told so. The statements of the
+-- calls give each answer as a function of what is lent.
 -- Assumes nothing.
 use Prim.Native.Nat.{ℕ}
 use mathlib.Core.Path.{_≡_, _∙_, ap, sym, subst}
