@@ -13,7 +13,7 @@ use Rattle.record.specs.declared.Record.{Record}
 use Rattle.record.specs.declared.Answer.{Answer}
 use Rattle.record.specs.declared.Answer.the-variants.{Took, Refused}
 use Rattle.reader.specs.Open.{fileFault}
-use Rattle.reader.specs.File.{File, Ending, whole, stopped}
+use Rattle.reader.specs.File.{Ending, whole, stopped}
 use Rattle.reader.specs.Said.{Next, Hands, Refuses, End, Turn}
 use Rattle.reader.specs.declared.State.{State}
 

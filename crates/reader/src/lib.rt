@@ -9,7 +9,7 @@ ghost use Rattle.record_line.specs.Line.{refusal as refusalOf};
 ghost use Rattle.reader.specs.Open.{versionLine};
 ghost use Rattle.reader.specs.Said.{said, saidCheck};
 ghost use Rattle.reader.specs.File.{checkFile};
-ghost use Rattle.reader.specs.Reader.{opened as openedOf, openFile, refuses, endAt, saidAgain, closing, on, nextRecord};
+ghost use Rattle.reader.specs.Reader.{opened as openedOf, openFile, refuses, endAt, saidAgain, closing, nextRecord};
 ghost use Rattle.reader.specs.Code.Gone.{movesOn, goneOf, goneBy};
 
 // Where the reader is in the file, and what the records before leave. A file that was refused on opening keeps its number here (20, 21 or 22;

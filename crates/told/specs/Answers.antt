@@ -4,7 +4,6 @@ use Prim.Native.Nat.{ℕ, _≤_, _<_}
 use mathlib.Core.Path.{_≡_}
 use mathlib.Core.List.{List, [], _∷_}
 use lib.ListN.{length, getD}
-use Rattle.cells.specs.Test.{refused}
 use Rattle.record.specs.declared.Refusal.{Refusal}
 use Rattle.reader.specs.Said.{Next, Hands, Refuses, End, Check, Records, Not}
 use Rattle.plain_record.specs.Records.{recordNumbers}
