@@ -25,7 +25,7 @@ static void amount(uint64_t n) {
     printf(".%0*" PRIu64, width, places);
 }
 
-static void refused(uint8_t number, const uint64_t refusal[YWS_REFUSAL]) {
+static void refused(uint16_t number, const uint64_t refusal[YWS_REFUSAL]) {
     printf("refused %u %s %" PRIu64, number, number <= YWS_VERSION ? "offset" : "record", refusal[0]);
     if (refusal[1] != 0) printf(" field %" PRIu64, refusal[1]);
     if (number == YWS_CODE) printf(" code %" PRIu64 " place %" PRIu64, refusal[2], refusal[3]);
@@ -36,7 +36,7 @@ int main(void) {
     size_t length = fread(file, 1, sizeof file, stdin);
     uint64_t records, refusal[YWS_REFUSAL], state[YWS_STATE] = {0}, record[YWS_RECORD];
     /* The whole sheet first: no label of a sheet that is refused further on. */
-    uint8_t number = yws_sheet_check(file, length, &records, refusal);
+    uint16_t number = yws_sheet_check(file, length, &records, refusal);
     if (number != 0) {
         refused(number, refusal);
         return 1;

@@ -3,7 +3,8 @@
  * Link with libcapi.a. No function allocates, keeps a pointer after it returns, or touches anything but what it is lent; none has a
  * state of its own, so any number of threads may call at once on memory of their own.
  *
- * RESULT. Every function returns 0 where it did what it says, and else one of the numbers listed under YWS_... below.
+ * RESULT. Every function returns 0 where it did what it says, and else one of the numbers listed under YWS_... below. Keep it in a uint16_t: in
+ * eight bits it would never be YWS_END.
  *
  * POINTERS. Memory is the caller's, before and after. No pointer may be NULL, not even where a length is 0. An array has at least the
  * length written in its brackets. What a function writes may not overlap anything else that it is lent. Bytes read need no 0 at their end.
@@ -29,7 +30,7 @@
  *         static uint8_t file[YWS_FILE_MOST + 1];
  *         size_t length = fread(file, 1, sizeof file, stdin);
  *         uint64_t records, refusal[YWS_REFUSAL];
- *         uint8_t number = yws_sheet_check(file, length, &records, refusal);
+ *         uint16_t number = yws_sheet_check(file, length, &records, refusal);
  *         if (number == 0) {
  *             printf("ok %lu\n", (unsigned long) records);
  *             return 0;
@@ -91,7 +92,7 @@ extern "C" {
 #define YWS_RECORD_REFUSED 34 /* record that the reader would refuse here; its number follows */
 #define YWS_NO_CODE 35      /* numbers that no code reads as */
 /* yws_sheet_next: no record is left. */
-#define YWS_END 255
+#define YWS_END 65535
 
 /* ---- Usage codes: sixteen characters.
  *
@@ -110,10 +111,10 @@ extern "C" {
  */
 
 /* Reads `length` bytes of `code`. Taken: 0, *place 0, `numbers` written. Refused: 1 to 9, *place as document 01 says. */
-uint8_t yws_usage_read(const uint8_t *code, size_t length, uint64_t numbers[YWS_USAGE], uint64_t *place);
+uint16_t yws_usage_read(const uint8_t *code, size_t length, uint64_t numbers[YWS_USAGE], uint64_t *place);
 
 /* Writes the sixteen characters that read as `numbers`, with no 0 after them; YWS_NO_CODE where no code reads as them. */
-uint8_t yws_usage_write(const uint64_t numbers[YWS_USAGE], uint8_t code[16]);
+uint16_t yws_usage_write(const uint64_t numbers[YWS_USAGE], uint8_t code[16]);
 
 /* ---- Supplementary codes: eight characters.
  *
@@ -128,10 +129,10 @@ uint8_t yws_usage_write(const uint64_t numbers[YWS_USAGE], uint8_t code[16]);
  */
 
 /* As yws_usage_read. */
-uint8_t yws_supplement_read(const uint8_t *code, size_t length, uint64_t numbers[YWS_SUPPLEMENT], uint64_t *place);
+uint16_t yws_supplement_read(const uint8_t *code, size_t length, uint64_t numbers[YWS_SUPPLEMENT], uint64_t *place);
 
 /* As yws_usage_write, eight characters. */
-uint8_t yws_supplement_write(const uint64_t numbers[YWS_SUPPLEMENT], uint8_t code[8]);
+uint16_t yws_supplement_write(const uint64_t numbers[YWS_SUPPLEMENT], uint8_t code[8]);
 
 /* ---- Runs of date codes, and sets of days.
  *
@@ -140,12 +141,12 @@ uint8_t yws_supplement_write(const uint64_t numbers[YWS_SUPPLEMENT], uint8_t cod
 
 /* Reads a run, codes one after another, for the issue month `issue`. Taken: 0, `refusal` 0s, `days` written. Refused: refusal[0] the place,
  * refusal[1] for a code's own refusal (1 to 9) the number of the code, counted from 1, else 0. */
-uint8_t yws_run_read(uint8_t issue, const uint8_t *codes, size_t length, uint32_t days[YWS_DAYS], uint64_t refusal[2]);
+uint16_t yws_run_read(uint8_t issue, const uint8_t *codes, size_t length, uint32_t days[YWS_DAYS], uint64_t refusal[2]);
 
 /* Writes the run for a set into the front of `out` and the number of its codes, of eight characters each, into *count; the rest of the `room`
  * bytes stays. YWS_ISSUE_MONTH; YWS_DAY_SET for a set that is empty, holds a day that no calendar has, or mixes every-month days with a
  * named month's; YWS_ROOM exactly when `room` is less than 8 times the codes. YWS_RUN_MOST bytes are always enough. */
-uint8_t yws_set_write(uint8_t issue, const uint32_t days[YWS_DAYS], uint8_t *out, size_t room, uint64_t *count);
+uint16_t yws_set_write(uint8_t issue, const uint32_t days[YWS_DAYS], uint8_t *out, size_t room, uint64_t *count);
 
 /* ---- Sheets, read.
  *
@@ -164,17 +165,17 @@ uint8_t yws_set_write(uint8_t issue, const uint32_t days[YWS_DAYS], uint8_t *out
  */
 
 /* Reads a whole file. Taken: 0, `refusal` 0s, and in *records how many records it has, the version line counted. */
-uint8_t yws_sheet_check(const uint8_t *file, size_t length, uint64_t *records, uint64_t refusal[YWS_REFUSAL]);
+uint16_t yws_sheet_check(const uint8_t *file, size_t length, uint64_t *records, uint64_t refusal[YWS_REFUSAL]);
 
 /* Begins to read a file: 0, or YWS_TOO_LONG, YWS_FRAME or YWS_VERSION. Writes `state` either way; yws_sheet_next then says the refusal again,
  * with its offset. state[0] is the offset of the next record, or of the refusal. */
-uint8_t yws_sheet_open(const uint8_t *file, size_t length, uint64_t state[YWS_STATE]);
+uint16_t yws_sheet_open(const uint8_t *file, size_t length, uint64_t state[YWS_STATE]);
 
 /* The next record of the same, unchanged file: 0, and `record` and `state` written. YWS_END after the last; else the refusal. After the end or a
  * refusal `state` is as it was, so the next call says the same. `refusal` is 0s after 0 and YWS_END. The version line is no record.
  * Whatever stands in `state`, it returns 0, YWS_END or a number from 20 to 32, and YWS_END only where the file has its 1Ah at state[0]; at an
  * offset outside the file there is no record (YWS_UNKNOWN). */
-uint8_t yws_sheet_next(const uint8_t *file, size_t length, uint64_t state[YWS_STATE], uint64_t record[YWS_RECORD], uint64_t refusal[YWS_REFUSAL]);
+uint16_t yws_sheet_next(const uint8_t *file, size_t length, uint64_t state[YWS_STATE], uint64_t record[YWS_RECORD], uint64_t refusal[YWS_REFUSAL]);
 
 /* ---- Sheets, written.
  *
@@ -183,7 +184,7 @@ uint8_t yws_sheet_next(const uint8_t *file, size_t length, uint64_t state[YWS_ST
  */
 
 /* Begins a file: the version line, and `state` written; or YWS_ROOM. */
-uint8_t yws_writer_open(uint8_t *out, size_t room, uint64_t state[YWS_STATE]);
+uint16_t yws_writer_open(uint8_t *out, size_t room, uint64_t state[YWS_STATE]);
 
 /* Puts a record, laid out as yws_sheet_next has it, whose texts are offsets into the `length` bytes of `lent`: a file that was read, or a
  * buffer with the texts of one record. A text whose offsets are not inside `lent`, or fall, is one that no field takes (26, 27 for a site, 28
@@ -191,12 +192,12 @@ uint8_t yws_writer_open(uint8_t *out, size_t room, uint64_t state[YWS_STATE]);
  * looked at. A code whose first number is 0 is empty. YWS_RECORD_REFUSED, with the reader's number in *own (24
  * after closing and before opening), where the reader would refuse the record here; then YWS_ROOM exactly when the line with its CR LF and the closing 1Ah pass
  * `room` or YWS_FILE_MOST. *own is 0 but for YWS_RECORD_REFUSED. */
-uint8_t yws_writer_put(uint8_t *out, size_t room, uint64_t state[YWS_STATE], const uint64_t record[YWS_RECORD], const uint8_t *lent, size_t length,
-                       uint64_t *own);
+uint16_t yws_writer_put(uint8_t *out, size_t room, uint64_t state[YWS_STATE], const uint64_t record[YWS_RECORD], const uint8_t *lent, size_t length,
+                        uint64_t *own);
 
 /* Ends the file: the 1Ah, for which every record left room. Too early is YWS_RECORD_REFUSED with 32 in *own; a second time, and
  * before opening, with 24. */
-uint8_t yws_writer_close(uint8_t *out, size_t room, uint64_t state[YWS_STATE], uint64_t *own);
+uint16_t yws_writer_close(uint8_t *out, size_t room, uint64_t state[YWS_STATE], uint64_t *own);
 
 /* ---- Dates. */
 
@@ -206,7 +207,7 @@ uint8_t yws_writer_close(uint8_t *out, size_t room, uint64_t state[YWS_STATE], u
 
 /* Makes a date of a western year: into `numbers` era (0 western, 1 to 4), year, month, day, as record 51 has them; into `text` its characters,
  * eight in western style, in era style seven and a 0. YWS_VALUE where there is no such day or year. */
-uint8_t yws_date_make(uint16_t year, uint8_t month, uint8_t day, uint8_t style, uint64_t numbers[YWS_DATE], uint8_t text[8]);
+uint16_t yws_date_make(uint16_t year, uint8_t month, uint8_t day, uint8_t style, uint64_t numbers[YWS_DATE], uint8_t text[8]);
 
 #ifdef __cplusplus
 }

@@ -31,7 +31,7 @@ enum Work {
 const WORKS: [(Work, &str); 3] = [(Work::Check, "check"), (Work::Read, "read"), (Work::Write, "write")];
 
 /// One that works: what it answers is a count or a length, or a refusal's number.
-type Answer = Result<usize, u8>;
+type Answer = Result<usize, u16>;
 
 struct Side {
     name: &'static str,

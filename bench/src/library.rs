@@ -8,23 +8,23 @@ type Record = [u64; 31];
 type State = [u64; 11];
 type Refusal = [u64; 4];
 
-const END: u8 = 255;
+const END: u16 = 65_535;
 
 extern "C" {
-    fn yws_usage_read(code: *const u8, length: usize, numbers: &mut [u64; 25], place: &mut u64) -> u8;
-    fn yws_usage_write(numbers: &[u64; 25], code: &mut [u8; 16]) -> u8;
-    fn yws_supplement_read(code: *const u8, length: usize, numbers: &mut [u64; 22], place: &mut u64) -> u8;
-    fn yws_supplement_write(numbers: &[u64; 22], code: &mut [u8; 8]) -> u8;
-    fn yws_sheet_check(file: *const u8, length: usize, records: &mut u64, refusal: &mut Refusal) -> u8;
-    fn yws_sheet_open(file: *const u8, length: usize, state: &mut State) -> u8;
+    fn yws_usage_read(code: *const u8, length: usize, numbers: &mut [u64; 25], place: &mut u64) -> u16;
+    fn yws_usage_write(numbers: &[u64; 25], code: &mut [u8; 16]) -> u16;
+    fn yws_supplement_read(code: *const u8, length: usize, numbers: &mut [u64; 22], place: &mut u64) -> u16;
+    fn yws_supplement_write(numbers: &[u64; 22], code: &mut [u8; 8]) -> u16;
+    fn yws_sheet_check(file: *const u8, length: usize, records: &mut u64, refusal: &mut Refusal) -> u16;
+    fn yws_sheet_open(file: *const u8, length: usize, state: &mut State) -> u16;
     fn yws_sheet_next(
         file: *const u8,
         length: usize,
         state: &mut State,
         record: &mut Record,
         refusal: &mut Refusal,
-    ) -> u8;
-    fn yws_writer_open(out: *mut u8, room: usize, state: &mut State) -> u8;
+    ) -> u16;
+    fn yws_writer_open(out: *mut u8, room: usize, state: &mut State) -> u16;
     fn yws_writer_put(
         out: *mut u8,
         room: usize,
@@ -33,12 +33,12 @@ extern "C" {
         lent: *const u8,
         length: usize,
         own: &mut u64,
-    ) -> u8;
-    fn yws_writer_close(out: *mut u8, room: usize, state: &mut State, own: &mut u64) -> u8;
+    ) -> u16;
+    fn yws_writer_close(out: *mut u8, room: usize, state: &mut State, own: &mut u64) -> u16;
 }
 
 /// How many lines a sheet has, or its refusal's number.
-pub fn check(file: &[u8]) -> Result<usize, u8> {
+pub fn check(file: &[u8]) -> Result<usize, u16> {
     let (mut records, mut refusal) = (0, [0; 4]);
     // SAFETY: `file` is a slice of that length, the others are what the header asks for, and none overlaps another.
     match unsafe { yws_sheet_check(file.as_ptr(), file.len(), &mut records, &mut refusal) } {
@@ -48,7 +48,7 @@ pub fn check(file: &[u8]) -> Result<usize, u8> {
 }
 
 /// Hands every record of a sheet to `take`; how many lines it has, or its refusal's number.
-fn each(file: &[u8], mut take: impl FnMut(&Record)) -> Result<usize, u8> {
+fn each(file: &[u8], mut take: impl FnMut(&Record)) -> Result<usize, u16> {
     let (mut state, mut record, mut refusal) = ([0; 11], [0; 31], [0; 4]);
     let mut lines = 1;
     // SAFETY: as in `check`.
@@ -68,14 +68,14 @@ fn each(file: &[u8], mut take: impl FnMut(&Record)) -> Result<usize, u8> {
 }
 
 /// Reads every record; how many lines there are, or the refusal's number.
-pub fn read(file: &[u8]) -> Result<usize, u8> {
+pub fn read(file: &[u8]) -> Result<usize, u16> {
     each(file, |record| {
         see(record);
     })
 }
 
 /// Reads every record and writes it again; the length written, or the refusal's number.
-pub fn write(file: &[u8], out: &mut [u8]) -> Result<usize, u8> {
+pub fn write(file: &[u8], out: &mut [u8]) -> Result<usize, u16> {
     let (mut state, mut own, mut number) = ([0; 11], 0, 0);
     let (start, room) = (out.as_mut_ptr(), out.len());
     // SAFETY: `out` is a slice of that length, the others are what the header asks for, and none overlaps another.

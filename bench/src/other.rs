@@ -5,12 +5,12 @@ use independent::file::{self, Reader};
 use independent::writer::Writer;
 
 /// How many lines a sheet has, or its refusal's number.
-pub fn check(file: &[u8]) -> Result<usize, u8> {
+pub fn check(file: &[u8]) -> Result<usize, u16> {
     file::check(file).map_err(|refusal| refusal.number)
 }
 
 /// Reads every record; how many lines there are, or the refusal's number.
-pub fn read(file: &[u8]) -> Result<usize, u8> {
+pub fn read(file: &[u8]) -> Result<usize, u16> {
     let mut lines = 1;
     for record in Reader::open(file).map_err(|refusal| refusal.number)? {
         see(&record.map_err(|refusal| refusal.number)?);
@@ -20,7 +20,7 @@ pub fn read(file: &[u8]) -> Result<usize, u8> {
 }
 
 /// Reads every record and writes it again; the length written, or the refusal's number.
-pub fn write(file: &[u8], out: &mut [u8]) -> Result<usize, u8> {
+pub fn write(file: &[u8], out: &mut [u8]) -> Result<usize, u16> {
     let mut writer = Writer::open(out).map_err(|refusal| refusal.number())?;
     for record in Reader::open(file).map_err(|refusal| refusal.number)? {
         let record = record.map_err(|refusal| refusal.number)?;

@@ -5,7 +5,7 @@ use csv::{ReaderBuilder, StringRecord, Terminator, WriterBuilder};
 use encoding_rs::SHIFT_JIS;
 
 /// Hands every line of a sheet to `take`; how many there are. Where a byte is no Shift_JIS it is replaced, and never refused.
-fn each(file: &[u8], mut take: impl FnMut(&StringRecord)) -> Result<usize, u8> {
+fn each(file: &[u8], mut take: impl FnMut(&StringRecord)) -> Result<usize, u16> {
     let body = file.strip_suffix(b"\x1a").unwrap_or(file);
     let (text, _, _) = SHIFT_JIS.decode(body);
     let mut reader = ReaderBuilder::new().has_headers(false).flexible(true).quoting(false).from_reader(text.as_bytes());
@@ -19,7 +19,7 @@ fn each(file: &[u8], mut take: impl FnMut(&StringRecord)) -> Result<usize, u8> {
 }
 
 /// Reads every field; how many lines there are.
-pub fn read(file: &[u8]) -> Result<usize, u8> {
+pub fn read(file: &[u8]) -> Result<usize, u16> {
     each(file, |record| {
         for field in record {
             see(&field);
@@ -28,7 +28,7 @@ pub fn read(file: &[u8]) -> Result<usize, u8> {
 }
 
 /// Reads every field and writes it again; the length written.
-pub fn write(file: &[u8], out: &mut [u8]) -> Result<usize, u8> {
+pub fn write(file: &[u8], out: &mut [u8]) -> Result<usize, u16> {
     let mut writer = WriterBuilder::new()
         .flexible(true)
         .quote_style(csv::QuoteStyle::Never)

@@ -3,8 +3,8 @@
  * The library is x86-64 code. What it is compared with need not be, so the two meet over a pipe: this side may run under an emulator.
  *
  * A question is one byte that says what is asked, the length of what follows in four bytes, and that. An answer is its length in four bytes,
- * and all that the call returned and wrote. Numbers have their lowest byte first. What a call is to write is filled with a pattern before
- * it and answered whole, so that an answer also shows what a refusal left alone.
+ * and all that the call returned, in two bytes, and wrote. Numbers have their lowest byte first. What a call is to write is filled with a
+ * pattern before it and answered whole, so that an answer also shows what a refusal left alone.
  */
 #define _DEFAULT_SOURCE
 #include "lent.h"
@@ -28,6 +28,12 @@ static void say(const void *bytes, size_t length) {
 static void say_byte(unsigned n) {
     uint8_t byte = (uint8_t) n;
     say(&byte, 1);
+}
+
+/* What a call returned. */
+static void say_returned(uint16_t number) {
+    say_byte(number & 255u);
+    say_byte(number >> 8);
 }
 
 static void say_numbers(const uint64_t *numbers, size_t count) {
@@ -64,8 +70,8 @@ static void usage_read(struct question q) {
     uint64_t numbers[YWS_USAGE], place;
     memset(numbers, UNTOUCHED, sizeof numbers);
     memset(&place, UNTOUCHED, sizeof place);
-    unsigned number = yws_usage_read(q.bytes, q.length, numbers, &place);
-    say_byte(number);
+    uint16_t number = yws_usage_read(q.bytes, q.length, numbers, &place);
+    say_returned(number);
     say_numbers(&place, 1);
     say_numbers(numbers, YWS_USAGE);
 }
@@ -75,7 +81,7 @@ static void usage_write(struct question q) {
     uint8_t *code = out_end - 16;
     for (int i = 0; i < YWS_USAGE; i++) numbers[i] = take_number(&q, 8);
     memset(code, UNTOUCHED, 16);
-    say_byte(yws_usage_write(numbers, code));
+    say_returned(yws_usage_write(numbers, code));
     say(code, 16);
 }
 
@@ -83,8 +89,8 @@ static void supplement_read(struct question q) {
     uint64_t numbers[YWS_SUPPLEMENT], place;
     memset(numbers, UNTOUCHED, sizeof numbers);
     memset(&place, UNTOUCHED, sizeof place);
-    unsigned number = yws_supplement_read(q.bytes, q.length, numbers, &place);
-    say_byte(number);
+    uint16_t number = yws_supplement_read(q.bytes, q.length, numbers, &place);
+    say_returned(number);
     say_numbers(&place, 1);
     say_numbers(numbers, YWS_SUPPLEMENT);
 }
@@ -94,7 +100,7 @@ static void supplement_write(struct question q) {
     uint8_t *code = out_end - 8;
     for (int i = 0; i < YWS_SUPPLEMENT; i++) numbers[i] = take_number(&q, 8);
     memset(code, UNTOUCHED, 8);
-    say_byte(yws_supplement_write(numbers, code));
+    say_returned(yws_supplement_write(numbers, code));
     say(code, 8);
 }
 
@@ -104,7 +110,7 @@ static void run_read(struct question q) {
     uint64_t refusal[2];
     memset(days, UNTOUCHED, sizeof days);
     memset(refusal, UNTOUCHED, sizeof refusal);
-    say_byte(yws_run_read(issue, q.bytes, q.length, days, refusal));
+    say_returned(yws_run_read(issue, q.bytes, q.length, days, refusal));
     say_numbers(refusal, 2);
     for (int i = 0; i < YWS_DAYS; i++) say_numbers(&(uint64_t){days[i]}, 1);
 }
@@ -119,7 +125,7 @@ static void set_write(struct question q) {
     uint64_t count;
     memset(out, UNTOUCHED, room);
     memset(&count, UNTOUCHED, sizeof count);
-    say_byte(yws_set_write(issue, days, out, room, &count));
+    say_returned(yws_set_write(issue, days, out, room, &count));
     say_numbers(&count, 1);
     say(out, room);
 }
@@ -131,7 +137,7 @@ static void date_make(struct question q) {
     uint8_t *text = out_end - 8;
     memset(numbers, UNTOUCHED, sizeof numbers);
     memset(text, UNTOUCHED, 8);
-    say_byte(yws_date_make(year, month, day, style, numbers, text));
+    say_returned(yws_date_make(year, month, day, style, numbers, text));
     say_numbers(numbers, YWS_DATE);
     say(text, 8);
 }
@@ -140,7 +146,7 @@ static void sheet_check(struct question q) {
     uint64_t records, refusal[YWS_REFUSAL];
     memset(&records, UNTOUCHED, sizeof records);
     memset(refusal, UNTOUCHED, sizeof refusal);
-    say_byte(yws_sheet_check(q.bytes, q.length, &records, refusal));
+    say_returned(yws_sheet_check(q.bytes, q.length, &records, refusal));
     say_numbers(&records, 1);
     say_numbers(refusal, YWS_REFUSAL);
 }
@@ -148,13 +154,13 @@ static void sheet_check(struct question q) {
 /* Every record of a sheet with the place after it, then the end or the refusal; and whether the reader stays there and says it again. */
 static void sheet_records(struct question q) {
     uint64_t state[YWS_STATE], before[YWS_STATE], record[YWS_RECORD], refusal[YWS_REFUSAL], again[YWS_REFUSAL];
-    say_byte(yws_sheet_open(q.bytes, q.length, state));
+    say_returned(yws_sheet_open(q.bytes, q.length, state));
     for (;;) {
         memset(record, UNTOUCHED, sizeof record);
         memset(refusal, UNTOUCHED, sizeof refusal);
         memcpy(before, state, sizeof state);
-        uint8_t number = yws_sheet_next(q.bytes, q.length, state, record, refusal);
-        say_byte(number);
+        uint16_t number = yws_sheet_next(q.bytes, q.length, state, record, refusal);
+        say_returned(number);
         say_numbers(refusal, YWS_REFUSAL);
         say_numbers(record, YWS_RECORD);
         if (number == 0) {
@@ -176,8 +182,8 @@ static void sheet_next(struct question q) {
     for (int i = 0; i < YWS_STATE; i++) state[i] = take_number(&q, 8);
     memset(record, UNTOUCHED, sizeof record);
     memset(refusal, UNTOUCHED, sizeof refusal);
-    uint8_t number = yws_sheet_next(q.bytes, q.length, state, record, refusal);
-    say_byte(number);
+    uint16_t number = yws_sheet_next(q.bytes, q.length, state, record, refusal);
+    say_returned(number);
     say_numbers(refusal, YWS_REFUSAL);
     say_numbers(record, YWS_RECORD);
     say_numbers(state, number == 0 ? 1 : YWS_STATE);
@@ -204,8 +210,8 @@ static void writer_lend(size_t room) {
 static int writer_open(size_t room) {
     writer_lend(room);
     memset(writer.state, UNTOUCHED, sizeof writer.state);
-    uint8_t number = yws_writer_open(writer.out, room, writer.state);
-    say_byte(number);
+    uint16_t number = yws_writer_open(writer.out, room, writer.state);
+    say_returned(number);
     if (number != 0) say_byte(all_untouched(writer.out, room) && all_untouched((uint8_t *) writer.state, sizeof writer.state));
     return number == 0;
 }
@@ -216,8 +222,8 @@ static void writer_remember(void) {
 }
 
 /* A call's number, and the place after it or whether a refusal left all as it was. */
-static void writer_say(uint8_t number, uint64_t own) {
-    say_byte(number);
+static void writer_say(uint16_t number, uint64_t own) {
+    say_returned(number);
     say_numbers(&own, 1);
     if (number == 0)
         say_numbers(writer.state, 1);
@@ -226,11 +232,11 @@ static void writer_say(uint8_t number, uint64_t own) {
                  memcmp(writer.state_before, writer.state, sizeof writer.state) == 0);
 }
 
-static uint8_t writer_put(const uint64_t record[YWS_RECORD], const uint8_t *lent, size_t length) {
+static uint16_t writer_put(const uint64_t record[YWS_RECORD], const uint8_t *lent, size_t length) {
     uint64_t own;
     memset(&own, UNTOUCHED, sizeof own);
     writer_remember();
-    uint8_t number = yws_writer_put(writer.out, writer.room, writer.state, record, lent, length, &own);
+    uint16_t number = yws_writer_put(writer.out, writer.room, writer.state, record, lent, length, &own);
     writer_say(number, own);
     return number;
 }
@@ -239,7 +245,7 @@ static void writer_close_once(void) {
     uint64_t own;
     memset(&own, UNTOUCHED, sizeof own);
     writer_remember();
-    uint8_t number = yws_writer_close(writer.out, writer.room, writer.state, &own);
+    uint16_t number = yws_writer_close(writer.out, writer.room, writer.state, &own);
     writer_say(number, own);
 }
 

@@ -31,7 +31,7 @@ static void hold(int so, const char *what) {
 static void codes(const uint8_t *bytes, size_t length) {
     uint64_t numbers[YWS_USAGE], place;
     memset(numbers, UNTOUCHED, sizeof numbers);
-    uint8_t number = yws_usage_read(bytes, length, numbers, &place);
+    uint16_t number = yws_usage_read(bytes, length, numbers, &place);
     hold(number <= 9 && place <= 16, "usage code: no such refusal");
     if (number == 0) {
         uint8_t code[16];
@@ -59,7 +59,7 @@ static void run(uint8_t issue, const uint8_t *bytes, size_t length) {
     uint32_t days[YWS_DAYS];
     uint64_t refusal[2], count;
     memset(days, UNTOUCHED, sizeof days);
-    uint8_t number = yws_run_read(issue, bytes, length, days, refusal);
+    uint16_t number = yws_run_read(issue, bytes, length, days, refusal);
     if (number != 0) {
         hold(number <= 12 && number != 11, "run: no such refusal");
         hold(all_untouched((uint8_t *) days, sizeof days), "run: refused, yet days written");
@@ -80,20 +80,20 @@ static void sheet(const uint8_t *file, size_t length) {
     static uint8_t before[YWS_FILE_MOST + 8];
     uint64_t records = 77, refusal[YWS_REFUSAL], told[YWS_REFUSAL], state[YWS_STATE], old[YWS_STATE], own, writer[YWS_STATE];
     uint64_t record[YWS_RECORD];
-    uint8_t number = yws_sheet_check(file, length, &records, refusal);
+    uint16_t number = yws_sheet_check(file, length, &records, refusal);
     hold(number == 0 || (number >= 20 && number <= 32 && records == 77), "sheet: refused with a count or no such number");
     hold(refusal[0] <= length, "sheet: a place outside the file");
     size_t room = length < YWS_FILE_MOST ? length : YWS_FILE_MOST;
     uint8_t *out = out_end - room;
     memset(out, UNTOUCHED, room);
     memset(writer, 0, sizeof writer);
-    uint8_t opened = yws_writer_open(out, room, writer);
+    uint16_t opened = yws_writer_open(out, room, writer);
     hold(opened == 0 ? writer[1] == 1 : writer[0] == 0 && writer[1] == 0, "writer: its state after opening");
     yws_sheet_open(file, length, state);
     uint64_t read = 0;
     for (;;) {
         memcpy(old, state, sizeof old);
-        uint8_t next = yws_sheet_next(file, length, state, record, told);
+        uint16_t next = yws_sheet_next(file, length, state, record, told);
         if (next != 0) {
             hold(next == (number == 0 ? YWS_END : number), "sheet: the reader and the check differ");
             hold(memcmp(told, refusal, sizeof told) == 0, "sheet: their places differ");
@@ -105,7 +105,7 @@ static void sheet(const uint8_t *file, size_t length) {
         /* A file cut short may leave too little room for the closing byte, then the record is refused for that and nothing is written. */
         memcpy(before, out, room);
         memcpy(old, writer, sizeof old);
-        uint8_t put = yws_writer_put(out, room, writer, record, file, length, &own);
+        uint16_t put = yws_writer_put(out, room, writer, record, file, length, &own);
         if (put != 0) {
             hold(number != 0 && put == (opened == 0 ? YWS_ROOM : YWS_RECORD_REFUSED), "sheet: a record that was read cannot be put");
             hold(memcmp(before, out, room) == 0 && memcmp(old, writer, sizeof old) == 0, "sheet: a refused record was written");
@@ -128,7 +128,7 @@ static void states(const uint8_t *file, size_t length) {
     for (uint64_t second = 0; second < 3; second++) {
         if (second < 2) made[1] = second; /* none, one that is open, and then any */
         memcpy(state, made, sizeof state);
-        uint8_t number = yws_sheet_next(file, length, state, record, refusal);
+        uint16_t number = yws_sheet_next(file, length, state, record, refusal);
         hold(number == 0 || number == YWS_END || (number >= 20 && number <= 32), "state: no such number");
         hold(number == 0 || memcmp(state, made, sizeof state) == 0, "state: a refusal moved the reader");
         hold(number != YWS_END || (made[1] == 1 && made[0] < length && file[made[0]] == 0x1a), "state: the end, and no 1Ah");
@@ -161,7 +161,7 @@ static void numbers(const uint8_t *bytes, size_t length) {
     uint64_t state[YWS_STATE], own;
     uint8_t *out = out_end - 300;
     hold(yws_writer_open(out, 300, state) == 0 && state[0] == 8, "writer: not opened");
-    uint8_t put = yws_writer_put(out, 300, state, n, bytes, length, &own);
+    uint16_t put = yws_writer_put(out, 300, state, n, bytes, length, &own);
     hold(put == 0 || put == YWS_ROOM || put == YWS_RECORD_REFUSED, "writer: no such refusal");
     hold(put == 0 ? state[0] > 8 && state[0] < 300 : state[0] == 8, "writer: its place");
 }

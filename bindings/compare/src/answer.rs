@@ -7,7 +7,7 @@ pub const UNTOUCHED: u8 = 0xa5;
 const UNTOUCHED_NUMBER: u64 = u64::from_ne_bytes([UNTOUCHED; 8]);
 
 /// What `yws_sheet_next` returns after the last record.
-const END: u8 = 255;
+const END: u16 = 65_535;
 
 /// A question: what is asked, and of what.
 pub struct Question {
@@ -33,13 +33,14 @@ impl Question {
 }
 
 /// The numbers that an answer gives: one, or for records put one by one that of each call, a reader's own in place of 34.
-pub fn numbers_given(question: &Question, answer: &[u8]) -> Vec<u8> {
+pub fn numbers_given(question: &Question, answer: &[u8]) -> Vec<u16> {
+    let mut parts = Parts(answer);
     match question.asked {
-        // What opening says is the first byte of these, and tells less than what the check says.
+        // What opening says is the first of these, and tells less than what the check says.
         b'A' | b'W' => Vec::new(),
         b'P' => {
-            let (mut parts, mut records) = (Parts(answer), Parts(&question.bytes));
-            let opened = parts.number(1) as u8;
+            let mut records = Parts(&question.bytes);
+            let opened = parts.number(2) as u16;
             parts.take(usize::from(opened != 0));
             records.take(4);
             let mut calls = 2;
@@ -51,13 +52,13 @@ pub fn numbers_given(question: &Question, answer: &[u8]) -> Vec<u8> {
             }
             let mut given = vec![opened];
             for _ in 0..calls {
-                let (number, own) = (parts.number(1) as u8, parts.number(8) as u8);
+                let (number, own) = (parts.number(2) as u16, parts.number(8) as u16);
                 parts.take(if number == 0 { 8 } else { 1 });
                 given.push(if own == 0 { number } else { own });
             }
             given
         }
-        _ => answer.iter().take(1).copied().collect(),
+        _ => vec![parts.number(2) as u16],
     }
 }
 
@@ -65,6 +66,11 @@ pub fn numbers_given(question: &Question, answer: &[u8]) -> Vec<u8> {
 struct Answer(Vec<u8>);
 
 impl Answer {
+    /// What a call returned.
+    fn returned(&mut self, number: u16) {
+        self.0.extend(number.to_le_bytes());
+    }
+
     fn byte(&mut self, n: u8) {
         self.0.push(n);
     }
@@ -122,18 +128,18 @@ pub fn answer(question: &Question) -> Vec<u8> {
     answer.0
 }
 
-fn read_code<const N: usize>(read: Result<[u64; N], (u8, u64)>, answer: &mut Answer) {
+fn read_code<const N: usize>(read: Result<[u64; N], (u16, u64)>, answer: &mut Answer) {
     let (number, place, numbers) = match read {
         Ok(numbers) => (0, 0, numbers),
         Err((number, place)) => (number, place, [UNTOUCHED_NUMBER; N]),
     };
-    answer.byte(number);
+    answer.returned(number);
     answer.numbers(&[place]);
     answer.numbers(&numbers);
 }
 
 fn written_code<const N: usize>(code: Option<[u8; N]>, answer: &mut Answer) {
-    answer.byte(if code.is_some() { 0 } else { 35 });
+    answer.returned(if code.is_some() { 0 } else { 35 });
     answer.bytes(&code.unwrap_or([UNTOUCHED; N]));
 }
 
@@ -143,7 +149,7 @@ fn run_read(mut parts: Parts, answer: &mut Answer) {
         Ok(days) => (0, [0; 2], days),
         Err((number, refusal)) => (number, refusal, [UNTOUCHED_NUMBER as u32; 13]),
     };
-    answer.byte(number);
+    answer.returned(number);
     answer.numbers(&refusal);
     answer.numbers(&days.map(u64::from));
 }
@@ -157,7 +163,7 @@ fn set_write(mut parts: Parts, answer: &mut Answer) {
         Ok(count) => (0, count),
         Err(number) => (number, UNTOUCHED_NUMBER),
     };
-    answer.byte(number);
+    answer.returned(number);
     answer.numbers(&[count]);
     answer.bytes(&out);
 }
@@ -169,7 +175,7 @@ fn date_make(mut parts: Parts, answer: &mut Answer) {
         Ok((numbers, text)) => (0, numbers, text),
         Err(number) => (number, [UNTOUCHED_NUMBER; 4], [UNTOUCHED; 8]),
     };
-    answer.byte(number);
+    answer.returned(number);
     answer.numbers(&numbers);
     answer.bytes(&text);
 }
@@ -179,18 +185,18 @@ fn sheet_check(file: &[u8], answer: &mut Answer) {
         Ok(records) => (0, records, [0; 4]),
         Err((number, refusal)) => (number, UNTOUCHED_NUMBER, refusal),
     };
-    answer.byte(number);
+    answer.returned(number);
     answer.numbers(&[records]);
     answer.numbers(&refusal);
 }
 
 fn sheet_records(file: &[u8], answer: &mut Answer) {
     let opened = model::open(file);
-    answer.byte(opened.as_ref().map_or_else(|r| r.0, |_| 0));
+    answer.returned(opened.as_ref().map_or_else(|r| r.0, |_| 0));
     let last = opened.and_then(|mut reader| loop {
         match reader.read() {
             Ok(Some(record)) => {
-                answer.byte(0);
+                answer.returned(0);
                 answer.numbers(&[0; 4]);
                 answer.numbers(&model::record_numbers(file, &record));
                 answer.numbers(&[reader.offset() as u64]);
@@ -203,7 +209,7 @@ fn sheet_records(file: &[u8], answer: &mut Answer) {
         Ok(()) => (END, [0; 4]),
         Err(refused) => refused,
     };
-    answer.byte(number);
+    answer.returned(number);
     answer.numbers(&refusal);
     answer.numbers(&[UNTOUCHED_NUMBER; 31]);
     answer.byte(1);
@@ -218,7 +224,7 @@ fn sheet_next(mut parts: Parts, answer: &mut Answer) {
         Ok(None) => (END, [0; 4]),
         Err(refused) => *refused,
     };
-    answer.byte(number);
+    answer.returned(number);
     answer.numbers(&refusal);
     match &next {
         Ok(Some(record)) => {
@@ -233,14 +239,14 @@ fn sheet_next(mut parts: Parts, answer: &mut Answer) {
 }
 
 /// The number with what follows it; that a refusal left everything as it was.
-fn written(result: Result<u64, (u8, u64)>, answer: &mut Answer) {
+fn written(result: Result<u64, (u16, u64)>, answer: &mut Answer) {
     match result {
         Ok(place) => {
-            answer.byte(0);
+            answer.returned(0);
             answer.numbers(&[0, place]);
         }
         Err((number, own)) => {
-            answer.byte(number);
+            answer.returned(number);
             answer.numbers(&[own]);
             answer.byte(1);
         }
@@ -258,11 +264,11 @@ fn writing<'a>(
     let opened = model::open_writer(&mut out);
     let mut writer = match opened {
         Ok(writer) => {
-            answer.byte(0);
+            answer.returned(0);
             Some(writer)
         }
         Err((number, _)) => {
-            answer.byte(number);
+            answer.returned(number);
             answer.byte(1);
             None
         }

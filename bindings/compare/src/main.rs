@@ -11,6 +11,7 @@ mod random;
 mod sheets;
 mod states;
 
+use std::collections::BTreeMap;
 use std::fs;
 use std::io::{self, BufReader, BufWriter, Read, Write};
 use std::path::Path;
@@ -38,7 +39,7 @@ const KINDS: [(&str, u64, usize); 8] = [
 ];
 
 /// Numbers that the questions of a kind must have been answered with, so that a generator which misses its aim is seen.
-fn expected(kind: &str) -> &'static [u8] {
+fn expected(kind: &str) -> &'static [u16] {
     match kind {
         "usage codes" => &[0, 1, 2, 3, 4, 5, 6, 7, 8, 9, 35],
         "supplementary codes" => &[0, 1, 2, 5, 6, 8, 9, 35],
@@ -147,13 +148,12 @@ fn compare_kind(
         println!("{kind}: the answerer ended with {ended}");
         tally.faults += 1;
     }
-    let missed: Vec<_> = expected(kind).iter().filter(|&&number| seen[usize::from(number)] == 0).collect();
+    let missed: Vec<_> = expected(kind).iter().filter(|&number| !seen.contains_key(number)).collect();
     if !missed.is_empty() {
         println!("{kind}: no question was answered with {missed:?}");
         tally.faults += 1;
     }
-    let seen: Vec<_> =
-        seen.iter().enumerate().filter(|(_, times)| **times > 0).map(|(n, times)| format!("{n}: {times}")).collect();
+    let seen: Vec<_> = seen.iter().map(|(n, times)| format!("{n}: {times}")).collect();
     println!(
         "{kind}: {} questions (seed {seed}), {} faults, {:.1} s; answers by number {}",
         tally.questions,
@@ -164,10 +164,13 @@ fn compare_kind(
     Ok(tally)
 }
 
-fn compare_answers(kind: &str, child: &mut Child, asked: Receiver<Question>) -> io::Result<(Tally, [usize; 256])> {
+/// How often each number was given.
+type Seen = BTreeMap<u16, usize>;
+
+fn compare_answers(kind: &str, child: &mut Child, asked: Receiver<Question>) -> io::Result<(Tally, Seen)> {
     let mut from = BufReader::with_capacity(1 << 16, child.stdout.take().ok_or(io::ErrorKind::BrokenPipe)?);
     let mut tally = Tally { questions: 0, faults: 0 };
-    let mut seen = [0; 256];
+    let mut seen = Seen::new();
     let mut theirs = Vec::new();
     for question in asked {
         tally.questions += 1;
@@ -177,7 +180,9 @@ fn compare_answers(kind: &str, child: &mut Child, asked: Receiver<Question>) -> 
             tally.faults += 1;
             break;
         }
-        answer::numbers_given(&question, &ours).iter().for_each(|&number| seen[usize::from(number)] += 1);
+        for number in answer::numbers_given(&question, &ours) {
+            *seen.entry(number).or_default() += 1;
+        }
         if ours != theirs {
             tally.faults += 1;
             if tally.faults <= SHOWN {

@@ -52,7 +52,7 @@ fn half(n: u64) -> u16 {
 // ---- usage codes
 
 /// `yws_usage_read`: the numbers, or the refusal's number and place.
-pub fn usage_read(code: &[u8]) -> Result<UsageNumbers, (u8, u64)> {
+pub fn usage_read(code: &[u8]) -> Result<UsageNumbers, (u16, u64)> {
     usage::read(code).map(|i| usage_numbers(&i)).map_err(|r| (r.number, r.place as u64))
 }
 
@@ -201,7 +201,7 @@ fn part(n: u64) -> Option<Option<Part>> {
 // ---- supplementary codes
 
 /// `yws_supplement_read`.
-pub fn supplement_read(code: &[u8]) -> Result<SupplementNumbers, (u8, u64)> {
+pub fn supplement_read(code: &[u8]) -> Result<SupplementNumbers, (u16, u64)> {
     supplement::read(code).map(|s| supplement_numbers(&s)).map_err(|r| (r.number, r.place as u64))
 }
 
@@ -283,17 +283,17 @@ fn supplement_like(n: &SupplementNumbers) -> Option<Supplement> {
 // ---- runs, sets, dates
 
 /// `yws_run_read`: the masks, or the number with the place and the code's number.
-pub fn run_read(issue: u8, codes: &[u8]) -> Result<[u32; 13], (u8, [u64; 2])> {
+pub fn run_read(issue: u8, codes: &[u8]) -> Result<[u32; 13], (u16, [u64; 2])> {
     days::read_run(issue, codes).map(|set| set.0).map_err(|r| (r.number, [r.place as u64, r.code as u64]))
 }
 
 /// `yws_set_write`: how many codes were written.
-pub fn set_write(issue: u8, masks: &[u32; 13], out: &mut [u8]) -> Result<u64, u8> {
+pub fn set_write(issue: u8, masks: &[u32; 13], out: &mut [u8]) -> Result<u64, u16> {
     days::write_run(issue, &DaySet(*masks), out).map(|codes| codes as u64).map_err(|r| r.number)
 }
 
 /// `yws_date_make`: the numbers and the characters.
-pub fn date_make(year: u16, month: u8, day: u8, style: u8) -> Result<([u64; 4], [u8; 8]), u8> {
+pub fn date_make(year: u16, month: u8, day: u8, style: u8) -> Result<([u64; 4], [u8; 8]), u16> {
     let wish = match style {
         0 => Wish::None,
         1 => Wish::Western,
@@ -333,12 +333,12 @@ fn date_of(n: &[u64]) -> Date {
 // ---- sheets
 
 /// What is said of a refused sheet.
-pub fn sheet_refusal(r: &FileRefusal) -> (u8, SheetRefusal) {
+pub fn sheet_refusal(r: &FileRefusal) -> (u16, SheetRefusal) {
     (r.number, [r.at as u64, r.field as u64, u64::from(r.code), r.place as u64])
 }
 
 /// `yws_sheet_check`.
-pub fn sheet_check(file: &[u8]) -> Result<u64, (u8, SheetRefusal)> {
+pub fn sheet_check(file: &[u8]) -> Result<u64, (u16, SheetRefusal)> {
     independent::file::check(file).map(|lines| lines as u64).map_err(|r| sheet_refusal(&r))
 }
 
@@ -446,7 +446,7 @@ pub fn record_of<'a>(n: &RecordNumbers, lent: &'a [u8]) -> Record<'a> {
 }
 
 /// The number of a refusal to write, and the reader's number that follows it.
-pub fn write_refusal(refusal: WriteRefusal) -> (u8, u64) {
+pub fn write_refusal(refusal: WriteRefusal) -> (u16, u64) {
     match refusal {
         WriteRefusal::NoRoom => (33, 0),
         WriteRefusal::Refused(own) => (34, u64::from(own)),
@@ -454,18 +454,18 @@ pub fn write_refusal(refusal: WriteRefusal) -> (u8, u64) {
 }
 
 /// `yws_sheet_open` and `yws_sheet_next`.
-pub fn open(file: &[u8]) -> Result<Reader<'_>, (u8, SheetRefusal)> {
+pub fn open(file: &[u8]) -> Result<Reader<'_>, (u16, SheetRefusal)> {
     Reader::open(file).map_err(|r| sheet_refusal(&r))
 }
 
 /// `yws_writer_open`.
-pub fn open_writer(out: &mut [u8]) -> Result<Writer<'_>, (u8, u64)> {
+pub fn open_writer(out: &mut [u8]) -> Result<Writer<'_>, (u16, u64)> {
     Writer::open(out).map_err(write_refusal)
 }
 
 /// `yws_sheet_next` on a state that no call gave. The header: "state[1] is 1 while it is open; 21, 22 or 23 for a reader whose opening returned 20,
 /// 21 or 22; any other number says that nothing is open". One that is open has only zeros after that here: no record stands before its place.
-pub fn next_of<'a>(file: &'a [u8], state: &State) -> (Reader<'a>, Result<Option<Record<'a>>, (u8, SheetRefusal)>) {
+pub fn next_of<'a>(file: &'a [u8], state: &State) -> (Reader<'a>, Result<Option<Record<'a>>, (u16, SheetRefusal)>) {
     let mut reader = Reader::at(file, state[0] as usize);
     let refused = |number| Err((number, [state[0], 0, 0, 0]));
     let answer = match state[1] {

@@ -5,9 +5,13 @@ use crate::model::State;
 use crate::random::Random;
 use crate::sheets;
 
+/// Numbers that are 1 in their lowest bits alone.
+const WIDE: u64 = (1 << 32) + 1;
+const WIDEST: u64 = (1 << 63) + 1;
+
 /// Second numbers: of one that is open, of one that was refused on opening, and of none.
 const SECOND: &[u64] =
-    &[0, 1, 1, 1, 1, 2, 19, 20, 21, 22, 23, 24, 25, 32, 255, 256, 257, 65_537, (1 << 32) + 1, (1 << 63) + 1, u64::MAX];
+    &[0, 1, 1, 1, 1, 2, 19, 20, 21, 22, 23, 24, 25, 32, 255, 256, 257, 65_535, 65_536, 65_537, WIDE, WIDEST, u64::MAX];
 
 /// Each of them beside zeros, then states of chance: a reader's call on each, and a record put and the end written.
 pub fn states(random: &mut Random, corpus: &[Vec<u8>], count: usize, ask: &mut impl FnMut(Question)) {

@@ -13,7 +13,7 @@ pub struct DaySet(pub [u32; 13]);
 #[derive(Clone, Copy, Debug, PartialEq, Eq)]
 pub struct RunRefusal {
     /// The number in the table of refusals.
-    pub number: u8,
+    pub number: u16,
     /// The character at fault; with 12, the code number.
     pub place: usize,
     /// The number of the code that was refused by itself, from 1; else 0.
@@ -112,7 +112,7 @@ fn without_first_six(days: u32) -> u32 {
 mod tests {
     use super::*;
 
-    fn refused(issue: u8, run: &str) -> (u8, usize, usize) {
+    fn refused(issue: u8, run: &str) -> (u16, usize, usize) {
         let r = read_run(issue, run.as_bytes()).unwrap_err();
         (r.number, r.place, r.code)
     }

@@ -18,20 +18,20 @@ pub(crate) const END: u8 = 0x1a;
 #[derive(Clone, Copy, Debug, PartialEq, Eq)]
 pub struct FileRefusal {
     /// The number in the table of refusals.
-    pub number: u8,
+    pub number: u16,
     /// The offset: with 20 to 22 as the table says, else that of the record's first byte, or of the
     /// closing 1Ah.
     pub at: usize,
     /// The field, from 1.
     pub field: usize,
     /// With 29, the number that the code was refused with.
-    pub code: u8,
+    pub code: u16,
     /// With 29, the place in the code.
     pub place: usize,
 }
 
 impl FileRefusal {
-    fn new(number: u8, at: usize) -> Self {
+    fn new(number: u16, at: usize) -> Self {
         FileRefusal { number, at, field: 0, code: 0, place: 0 }
     }
 

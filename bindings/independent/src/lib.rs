@@ -21,13 +21,13 @@ pub mod writer;
 #[derive(Clone, Copy, Debug, PartialEq, Eq)]
 pub struct Refusal {
     /// The number in the table of refusals.
-    pub number: u8,
+    pub number: u16,
     /// The character at fault, counted from 1; 0 where no place is named.
     pub place: usize,
 }
 
 impl Refusal {
-    pub(crate) const fn new(number: u8, place: usize) -> Self {
+    pub(crate) const fn new(number: u16, place: usize) -> Self {
         Refusal { number, place }
     }
 }

@@ -24,7 +24,7 @@ pub(crate) enum Stage {
 impl Stage {
     /// The stage after a known record; else 24 or 32. 24: "by record numbers alone, no records put
     /// just before this one would help". 32: "some would: a needed record is missing".
-    pub(crate) fn step(self, number: u16) -> Result<Stage, u8> {
+    pub(crate) fn step(self, number: u16) -> Result<Stage, u16> {
         match self {
             Stage::Header(last) if number <= LAST_HEADER => {
                 let rises = number > last || (number == 81 && last == 81);
@@ -174,13 +174,13 @@ impl Order {
 mod tests {
     use super::*;
 
-    fn walk(numbers: &[u16]) -> Result<Stage, u8> {
+    fn walk(numbers: &[u16]) -> Result<Stage, u16> {
         numbers.iter().try_fold(Stage::Header(0), |stage, &number| stage.step(number))
     }
 
     const HEADER: [u16; 8] = NEEDED;
 
-    fn after_header(numbers: &[u16]) -> Result<Stage, u8> {
+    fn after_header(numbers: &[u16]) -> Result<Stage, u16> {
         walk(&[&HEADER[..], numbers].concat())
     }
 

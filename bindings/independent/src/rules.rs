@@ -14,7 +14,7 @@ use crate::{text, Refusal};
 /// Why a record is refused, once its number and place are in order.
 #[derive(Clone, Copy, Debug)]
 pub(crate) struct Fault {
-    pub(crate) number: u8,
+    pub(crate) number: u16,
     /// From 1; 0 where the fault names no field.
     pub(crate) field: usize,
     /// With 29 the refusal of the code.
@@ -25,7 +25,7 @@ pub(crate) struct Fault {
 pub(crate) const FIELD_COUNT: Fault = Fault { number: 25, field: 0, code: None };
 
 /// Gives a refused field its number.
-fn field(field: usize) -> impl Fn(u8) -> Fault {
+fn field(field: usize) -> impl Fn(u16) -> Fault {
     move |number| Fault { number, field, code: None }
 }
 
@@ -323,7 +323,7 @@ fn judge_kept(kept: Kept) -> Result<Kept, Fault> {
 }
 
 /// 28 where a required value is missing, 27 where it is none or not one asked for.
-fn required<T>(given: Given<T>, asked: impl Fn(&T) -> bool) -> Result<T, u8> {
+fn required<T>(given: Given<T>, asked: impl Fn(&T) -> bool) -> Result<T, u16> {
     match given {
         Ok(None) => Err(28),
         Ok(Some(value)) if asked(&value) => Ok(value),
@@ -331,12 +331,12 @@ fn required<T>(given: Given<T>, asked: impl Fn(&T) -> bool) -> Result<T, u8> {
     }
 }
 
-fn required_number(given: Given<u32>, range: RangeInclusive<u32>) -> Result<u32, u8> {
+fn required_number(given: Given<u32>, range: RangeInclusive<u32>) -> Result<u32, u16> {
     required(given, |n| range.contains(n))
 }
 
 /// A number of at most two digits, or empty.
-fn optional_number(given: Given<u32>, range: RangeInclusive<u32>) -> Result<Option<u8>, u8> {
+fn optional_number(given: Given<u32>, range: RangeInclusive<u32>) -> Result<Option<u8>, u16> {
     match given {
         Ok(None) => Ok(None),
         given => required_number(given, range).map(|n| Some(n as u8)),
@@ -344,22 +344,22 @@ fn optional_number(given: Given<u32>, range: RangeInclusive<u32>) -> Result<Opti
 }
 
 /// 30: "RP number or serial not as ordered".
-fn ordered(is: bool) -> Result<(), u8> {
+fn ordered(is: bool) -> Result<(), u16> {
     is.then_some(()).ok_or(30)
 }
 
-fn rp_number(given: Given<u32>, takes: impl Fn(RpNumber) -> bool) -> Result<RpNumber, u8> {
+fn rp_number(given: Given<u32>, takes: impl Fn(RpNumber) -> bool) -> Result<RpNumber, u16> {
     let rp = RpNumber(required_number(given, 1..=999)? as u16);
     ordered(takes(rp))?;
     Ok(rp)
 }
 
 /// 26: "badly formed, end space, too long".
-fn checked(text: &[u8], most: usize) -> Result<&[u8], u8> {
+fn checked(text: &[u8], most: usize) -> Result<&[u8], u16> {
     text::is_sound(text, most).then_some(text).ok_or(26)
 }
 
-fn required_text(text: &[u8], most: usize) -> Result<&[u8], u8> {
+fn required_text(text: &[u8], most: usize) -> Result<&[u8], u16> {
     match text {
         [] => Err(28),
         text => checked(text, most),
@@ -367,7 +367,7 @@ fn required_text(text: &[u8], most: usize) -> Result<&[u8], u8> {
 }
 
 /// 28 unless a field is filled exactly when it is required.
-fn filled_when(required: bool, filled: bool) -> Result<(), u8> {
+fn filled_when(required: bool, filled: bool) -> Result<(), u16> {
     (required == filled).then_some(()).ok_or(28)
 }
 
@@ -378,7 +378,7 @@ fn code_with<T>(asked: bool, given: Given<T, Refusal>, at: usize) -> Result<Opti
 }
 
 /// "Site, three digits or capitals."
-fn site_with(asked: bool, site: &[u8]) -> Result<&[u8], u8> {
+fn site_with(asked: bool, site: &[u8]) -> Result<&[u8], u16> {
     filled_when(asked, !site.is_empty())?;
     let three = site.len() == 3 && site.iter().all(|c| c.is_ascii_digit() || c.is_ascii_uppercase());
     (!asked || three).then_some(site).ok_or(27)
@@ -386,7 +386,7 @@ fn site_with(asked: bool, site: &[u8]) -> Result<&[u8], u8> {
 
 /// "Drug code (digits, letters of either case, point, hyphen): empty for code kind 1, free for 7,
 /// else required."
-fn drug_code(code_kind: u8, code: &[u8]) -> Result<&[u8], u8> {
+fn drug_code(code_kind: u8, code: &[u8]) -> Result<&[u8], u16> {
     if code_kind != 7 {
         filled_when(code_kind != 1, !code.is_empty())?;
     }
@@ -396,7 +396,7 @@ fn drug_code(code_kind: u8, code: &[u8]) -> Result<&[u8], u8> {
 }
 
 /// "The name may be empty only for code kind 2, and not for code 777770000."
-fn drug_name<'a>(code_kind: u8, code: &[u8], name: &'a [u8]) -> Result<&'a [u8], u8> {
+fn drug_name<'a>(code_kind: u8, code: &[u8], name: &'a [u8]) -> Result<&'a [u8], u16> {
     let may_be_empty = code_kind == 2 && code != b"777770000";
     match may_be_empty {
         true => checked(name, 80),

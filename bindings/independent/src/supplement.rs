@@ -281,7 +281,7 @@ fn write_unequal(code: &mut Code, unequal: &Unequal) -> Option<()> {
 mod tests {
     use super::*;
 
-    fn refused(code: &str) -> (u8, usize) {
+    fn refused(code: &str) -> (u16, usize) {
         let r = read(code.as_bytes()).unwrap_err();
         (r.number, r.place)
     }

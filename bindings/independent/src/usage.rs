@@ -462,7 +462,7 @@ fn hour_letter(hour: Option<u8>) -> u8 {
 mod tests {
     use super::*;
 
-    fn refused(code: &str) -> (u8, usize) {
+    fn refused(code: &str) -> (u16, usize) {
         let r = read(code.as_bytes()).unwrap_err();
         (r.number, r.place)
     }

@@ -12,12 +12,12 @@ pub enum WriteRefusal {
     /// 33: "no room".
     NoRoom,
     /// 34: "record the reader would refuse here"; the reader's number follows.
-    Refused(u8),
+    Refused(u16),
 }
 
 impl WriteRefusal {
     /// The number in the table of refusals.
-    pub fn number(&self) -> u8 {
+    pub fn number(&self) -> u16 {
         match self {
             WriteRefusal::NoRoom => 33,
             WriteRefusal::Refused(_) => 34,

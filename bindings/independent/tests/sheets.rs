@@ -45,7 +45,7 @@ fn with(at: usize, lines: &[&str]) -> (Vec<u8>, usize) {
 
 /// The answer for the sample with one line replaced, as number and field; the record must be the
 /// replaced line.
-fn replaced(at: usize, line: &str) -> (u8, usize) {
+fn replaced(at: usize, line: &str) -> (u16, usize) {
     let (bytes, offset) = with(at, &[line]);
     match check(&bytes) {
         Ok(_) => (0, 0),
@@ -57,7 +57,7 @@ fn replaced(at: usize, line: &str) -> (u8, usize) {
 }
 
 /// Checks each line of a table of replacements.
-fn table(at: usize, rows: &[(&str, (u8, usize))]) {
+fn table(at: usize, rows: &[(&str, (u16, usize))]) {
     for (line, want) in rows {
         assert_eq!(replaced(at, line), *want, "{line}");
     }
@@ -402,7 +402,7 @@ fn kept<'a>(number: u16, fields: &'a [&'a [u8]]) -> Record<'a> {
     Record::Kept(Kept { number, fields: Fields::List(fields) })
 }
 
-fn refused(number: u8) -> Result<(), WriteRefusal> {
+fn refused(number: u16) -> Result<(), WriteRefusal> {
     Err(WriteRefusal::Refused(number))
 }
 

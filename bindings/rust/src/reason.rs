@@ -3,7 +3,7 @@
 /// The reasons, each with the number that it has in the C interface and in the rules.
 #[derive(Clone, Copy, Debug, PartialEq, Eq, Hash)]
 #[non_exhaustive]
-#[repr(u8)]
+#[repr(u16)]
 pub enum Reason {
     /// A code is not 16 or 8 long, or a run is not whole codes.
     Length = 1,
@@ -67,7 +67,7 @@ pub enum Reason {
 
 impl Reason {
     /// The reason of a number.
-    pub fn of(number: u8) -> Reason {
+    pub fn of(number: u16) -> Reason {
         use Reason::*;
         const ALL: [Reason; 28] = [
             Length, First, Detail, Timing, Character, Unused, Count, Rule, Rising, IssueMonth, DaySet, Run, TooLong,
@@ -78,8 +78,8 @@ impl Reason {
     }
 
     /// Its number.
-    pub fn number(self) -> u8 {
-        self as u8
+    pub fn number(self) -> u16 {
+        self as u16
     }
 }
 

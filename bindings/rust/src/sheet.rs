@@ -21,9 +21,9 @@ pub struct SheetRefusal {
 }
 
 impl SheetRefusal {
-    fn of(number: u8, n: &ffi::Refusal) -> SheetRefusal {
+    fn of(number: u16, n: &ffi::Refusal) -> SheetRefusal {
         let reason = Reason::of(number);
-        let code = CodeRefusal { reason: Reason::of(n[2] as u8), place: n[3] };
+        let code = CodeRefusal { reason: Reason::of(n[2] as u16), place: n[3] };
         SheetRefusal {
             reason,
             offset: n[0],
@@ -104,10 +104,10 @@ pub enum WriteRefusal {
 }
 
 impl WriteRefusal {
-    fn of(number: u8, own: u64) -> WriteRefusal {
+    fn of(number: u16, own: u64) -> WriteRefusal {
         match Reason::of(number) {
             Reason::Room => WriteRefusal::Room,
-            _ => WriteRefusal::Record(Reason::of(own as u8)),
+            _ => WriteRefusal::Record(Reason::of(own as u16)),
         }
     }
 }
@@ -179,7 +179,7 @@ mod states {
     const FILE: &[u8] = b"JAHIS5\r\n1,A\r\n\x1a";
 
     /// What the next call on a state says, and that it leaves the state.
-    fn next(state: ffi::State) -> (u8, ffi::Refusal) {
+    fn next(state: ffi::State) -> (u16, ffi::Refusal) {
         let (mut after, mut record, mut refusal) = (state, [7; 31], [7; 4]);
         // SAFETY: `FILE` is a slice of that length, the others are of the right lengths, and none overlaps another.
         let number = unsafe { ffi::yws_sheet_next(FILE.as_ptr(), FILE.len(), &mut after, &mut record, &mut refusal) };
@@ -188,7 +188,7 @@ mod states {
     }
 
     /// What a put and the close say of a writer's state, with the reader's number; and that they leave state and buffer.
-    fn put_and_close(state: ffi::State) -> [(u8, u64); 2] {
+    fn put_and_close(state: ffi::State) -> [(u16, u64); 2] {
         let (mut after, mut out, mut record, mut own) = (state, [b'!'; 99], [0; 31], [7; 2]);
         record[0] = 1;
         // SAFETY: `out` and `FILE` are slices of those lengths, the others are of the right lengths, and none overlaps another.
@@ -212,7 +212,7 @@ mod states {
     #[test]
     fn never_opened() {
         for place in [0, 100] {
-            for second in [0, 2, 20, 24, 255, 256, 257, u64::MAX] {
+            for second in [0, 2, 20, 24, 255, 256, 257, 65_535, 65_536, 65_537, u64::MAX] {
                 assert_eq!(next(state(place, second)), (24, [place, 0, 0, 0]));
                 assert_eq!(put_and_close(state(place, second)), [(34, 24); 2]);
             }

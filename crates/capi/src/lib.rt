@@ -23,7 +23,7 @@ ghost use Rattle.writer_calls.specs.Calls.{OpensBuffer, Puts};
 
 // Reads a usage code.
 #[no_mangle]
-pub extern "C" fn yws_usage_read(code: &[u8], numbers: &mut [u64; 25], place: &mut u64) -> u8
+pub extern "C" fn yws_usage_read(code: &[u8], numbers: &mut [u64; 25], place: &mut u64) -> u16
     ensures { λ r. ⌜ Reads Instruction usageNumbers (readUsage (now (code .entry))) (now (numbers .entry)) r (now (place .exit)) (now (numbers .exit)) ⌝ }
 {
     code_calls::usage_read(code, numbers, place)
@@ -31,7 +31,7 @@ pub extern "C" fn yws_usage_read(code: &[u8], numbers: &mut [u64; 25], place: &m
 
 // Writes a usage code.
 #[no_mangle]
-pub extern "C" fn yws_usage_write(numbers: &[u64; 25], code: &mut [u8; 16]) -> u8
+pub extern "C" fn yws_usage_write(numbers: &[u64; 25], code: &mut [u8; 16]) -> u16
     ensures { λ r. ⌜ Writes Instruction readUsage (now (code .entry)) (instructionOf (now (numbers .entry))) r (now (code .exit)) ⌝ }
 {
     code_calls::usage_write(numbers, code)
@@ -41,7 +41,7 @@ pub extern "C" fn yws_usage_write(numbers: &[u64; 25], code: &mut [u8; 16]) -> u
 
 // Reads a supplementary code.
 #[no_mangle]
-pub extern "C" fn yws_supplement_read(code: &[u8], numbers: &mut [u64; 22], place: &mut u64) -> u8
+pub extern "C" fn yws_supplement_read(code: &[u8], numbers: &mut [u64; 22], place: &mut u64) -> u16
     ensures { λ r. ⌜ Reads Supplement supplementNumbers (readSupplement (now (code .entry))) (now (numbers .entry)) r (now (place .exit)) (now (numbers .exit)) ⌝ }
 {
     code_calls::supplement_read(code, numbers, place)
@@ -49,7 +49,7 @@ pub extern "C" fn yws_supplement_read(code: &[u8], numbers: &mut [u64; 22], plac
 
 // Writes a supplementary code.
 #[no_mangle]
-pub extern "C" fn yws_supplement_write(numbers: &[u64; 22], code: &mut [u8; 8]) -> u8
+pub extern "C" fn yws_supplement_write(numbers: &[u64; 22], code: &mut [u8; 8]) -> u16
     ensures { λ r. ⌜ Writes Supplement readSupplement (now (code .entry)) (supplementOf (now (numbers .entry))) r (now (code .exit)) ⌝ }
 {
     code_calls::supplement_write(numbers, code)
@@ -64,7 +64,7 @@ pub extern "C" fn yws_run_read(
     codes: &[u8],
     days: &mut [u32; 13],
     refusal: &mut [u64; 2],
-) -> u8
+) -> u16
     ensures { λ r. ⌜ ReadsRun (readRun issue (now (codes .entry))) (now (days .entry)) r (now (refusal .exit)) (now (days .exit)) ⌝ }
 {
     code_calls::run_read(issue, codes, days, refusal)
@@ -72,7 +72,7 @@ pub extern "C" fn yws_run_read(
 
 // Writes the run for a set of days.
 #[no_mangle]
-pub extern "C" fn yws_set_write(issue: u8, days: &[u32; 13], out: &mut [u8], count: &mut u64) -> u8
+pub extern "C" fn yws_set_write(issue: u8, days: &[u32; 13], out: &mut [u8], count: &mut u64) -> u16
     ensures { λ r. ⌜ TellsSet issue (now (days .entry)) (now (out .entry)) (now (out .exit)) r (now (count .entry)) (now (count .exit)) ⌝ }
 {
     code_calls::set_write(issue, days, out, count)
@@ -82,7 +82,7 @@ pub extern "C" fn yws_set_write(issue: u8, days: &[u32; 13], out: &mut [u8], cou
 
 // Checks a sheet.
 #[no_mangle]
-pub extern "C" fn yws_sheet_check(file: &[u8], records: &mut u64, refusal: &mut [u64; 4]) -> u8
+pub extern "C" fn yws_sheet_check(file: &[u8], records: &mut u64, refusal: &mut [u64; 4]) -> u16
     ensures { λ r. ⌜ Checks (checkFile (now (file .entry))) (now (records .entry)) r (now (refusal .exit)) (now (records .exit)) ⌝ }
 {
     sheet_calls::check(file, records, refusal)
@@ -90,7 +90,7 @@ pub extern "C" fn yws_sheet_check(file: &[u8], records: &mut u64, refusal: &mut 
 
 // Opens a sheet to read.
 #[no_mangle]
-pub extern "C" fn yws_sheet_open(file: &[u8], state: &mut [u64; 11]) -> u8
+pub extern "C" fn yws_sheet_open(file: &[u8], state: &mut [u64; 11]) -> u16
     ensures { λ r. ⌜ Opens (openFile (now (file .entry))) r (now (state .exit)) ⌝ }
 {
     sheet_calls::open(file, state)
@@ -103,7 +103,7 @@ pub extern "C" fn yws_sheet_next(
     state: &mut [u64; 11],
     numbers: &mut [u64; 31],
     refusal: &mut [u64; 4],
-) -> u8
+) -> u16
     ensures { λ r. ⌜ Steps (nextRecord (now (file .entry)) (readerOf (now (state .entry)))) (now (state .entry)) (now (numbers .entry)) r (now (refusal .exit)) (now (state .exit)) (now (numbers .exit)) ⌝ }
 {
     sheet_calls::next(file, state, numbers, refusal)
@@ -113,7 +113,7 @@ pub extern "C" fn yws_sheet_next(
 
 // Opens a buffer to write a sheet.
 #[no_mangle]
-pub extern "C" fn yws_writer_open(out: &mut [u8], state: &mut [u64; 11]) -> u8
+pub extern "C" fn yws_writer_open(out: &mut [u8], state: &mut [u64; 11]) -> u16
     ensures { λ r. ⌜ OpensBuffer (openBuffer (now (out .entry))) (now (state .entry)) r (now (out .exit)) (now (state .exit)) ⌝ }
 {
     writer_calls::open(out, state)
@@ -127,7 +127,7 @@ pub extern "C" fn yws_writer_put(
     numbers: &[u64; 31],
     lent: &[u8],
     own: &mut u64,
-) -> u8
+) -> u16
     ensures { λ r. ⌜ Puts (putRecord (now (out .entry)) (writerOf (now (state .entry))) (recordOf (now (numbers .entry))) (now (lent .entry))) (now (state .entry)) r (now (own .exit)) (now (out .exit)) (now (state .exit)) ⌝ }
 {
     writer_calls::put(out, state, numbers, lent, own)
@@ -135,7 +135,7 @@ pub extern "C" fn yws_writer_put(
 
 // Writes the end.
 #[no_mangle]
-pub extern "C" fn yws_writer_close(out: &mut [u8], state: &mut [u64; 11], own: &mut u64) -> u8
+pub extern "C" fn yws_writer_close(out: &mut [u8], state: &mut [u64; 11], own: &mut u64) -> u16
     ensures { λ r. ⌜ Puts (closeBuffer (now (out .entry)) (writerOf (now (state .entry)))) (now (state .entry)) r (now (own .exit)) (now (out .exit)) (now (state .exit)) ⌝ }
 {
     writer_calls::close(out, state, own)
@@ -152,7 +152,7 @@ pub extern "C" fn yws_date_make(
     style: u8,
     numbers: &mut [u64; 4],
     text: &mut [u8; 8],
-) -> u8
+) -> u16
     ensures { λ r. ⌜ Makes (makeStyled year month day style) (now (numbers .entry)) (now (text .entry)) r (now (numbers .exit)) (now (text .exit)) ⌝ }
 {
     code_calls::date_make(year, month, day, style, numbers, text)

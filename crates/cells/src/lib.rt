@@ -8,7 +8,7 @@ ghost use Rattle.cells.specs.Code.Mask.{value as valueOf, has as hasOf, 
 
 // One of document 01's numbers, and a place; the number 0 says that nothing is at fault.
 pub struct Fault {
-    pub number: u8,
+    pub number: u16,
     pub place: usize,
 }
 
@@ -55,7 +55,7 @@ pub fn has(set: u64, v: u8) -> bool
 }
 
 // The number of what is wrong with the value v that stands after the value before; 0 for nothing.
-fn wrong(inside: bool, rises: bool, last: u8, before: u8, v: u8) -> u8
+fn wrong(inside: bool, rises: bool, last: u8, before: u8, v: u8) -> u16
     ensures { λ r. ⌜ r ≡ wrongOf inside rises last before v ⌝ }
 {
     if inside {
@@ -73,7 +73,7 @@ fn wrong(inside: bool, rises: bool, last: u8, before: u8, v: u8) -> u8
     5
 }
 
-fn unused(v: u8) -> u8
+fn unused(v: u8) -> u16
     ensures { λ r. ⌜ r ≡ unusedOf v ⌝ }
 {
     if v == 0 {
@@ -92,7 +92,7 @@ fn prev(i: usize) -> usize
 }
 
 // What is wrong at offset i, the jth of the row.
-fn wrong_at(sets: &[u64], rise: usize, last: u8, s: &[u8], j: usize, i: usize) -> u8
+fn wrong_at(sets: &[u64], rise: usize, last: u8, s: &[u8], j: usize, i: usize) -> u16
     requires { ⌜ i < length (now s) ⌝ }
     ensures { λ r. ⌜ r ≡ wrongAt (now (sets .entry)) rise last (now (s .entry)) j i ⌝ }
 {

@@ -20,7 +20,7 @@ ghost use Rattle.code_calls.specs.Calls.{Reads, ReadsRun, TellsSet, Make
 // ---- usage codes
 
 // Reads a usage code.
-pub fn usage_read(code: &[u8], numbers: &mut [u64; 25], place: &mut u64) -> u8
+pub fn usage_read(code: &[u8], numbers: &mut [u64; 25], place: &mut u64) -> u16
     ensures { λ r. ⌜ Reads Instruction usageNumbers (readUsage (now (code .entry))) (now (numbers .entry)) r (now (place .exit)) (now (numbers .exit)) ⌝ }
 {
     match usage::read(code) {
@@ -37,7 +37,7 @@ pub fn usage_read(code: &[u8], numbers: &mut [u64; 25], place: &mut u64) -> u8
 }
 
 // Writes a usage code.
-pub fn usage_write(numbers: &[u64; 25], code: &mut [u8; 16]) -> u8
+pub fn usage_write(numbers: &[u64; 25], code: &mut [u8; 16]) -> u16
     ensures { λ r. ⌜ Writes Instruction readUsage (now (code .entry)) (instructionOf (now (numbers .entry))) r (now (code .exit)) ⌝ }
 {
     let i = plain::instruction(numbers);
@@ -52,7 +52,7 @@ pub fn usage_write(numbers: &[u64; 25], code: &mut [u8; 16]) -> u8
 // ---- supplementary codes
 
 // Reads a supplementary code.
-pub fn supplement_read(code: &[u8], numbers: &mut [u64; 22], place: &mut u64) -> u8
+pub fn supplement_read(code: &[u8], numbers: &mut [u64; 22], place: &mut u64) -> u16
     ensures { λ r. ⌜ Reads Supplement supplementNumbers (readSupplement (now (code .entry))) (now (numbers .entry)) r (now (place .exit)) (now (numbers .exit)) ⌝ }
 {
     match supplement::read(code) {
@@ -69,7 +69,7 @@ pub fn supplement_read(code: &[u8], numbers: &mut [u64; 22], place: &mut u64) ->
 }
 
 // Writes a supplementary code.
-pub fn supplement_write(numbers: &[u64; 22], code: &mut [u8; 8]) -> u8
+pub fn supplement_write(numbers: &[u64; 22], code: &mut [u8; 8]) -> u16
     ensures { λ r. ⌜ Writes Supplement readSupplement (now (code .entry)) (supplementOf (now (numbers .entry))) r (now (code .exit)) ⌝ }
 {
     let x = plain::supplement(numbers);
@@ -84,7 +84,7 @@ pub fn supplement_write(numbers: &[u64; 22], code: &mut [u8; 8]) -> u8
 // ---- runs and sets of days
 
 // The number of an answer: 0, or the refusal's.
-fn wrote_number(w: Wrote) -> u8
+fn wrote_number(w: Wrote) -> u16
     ensures { λ r. ⌜ r ≡ number (said w) ⌝ }
 {
     match w {
@@ -104,7 +104,7 @@ fn count_after(w: Wrote, before: u64) -> u64
 }
 
 // Reads a run of date codes.
-pub fn run_read(issue: u8, codes: &[u8], days: &mut [u32; 13], refusal: &mut [u64; 2]) -> u8
+pub fn run_read(issue: u8, codes: &[u8], days: &mut [u32; 13], refusal: &mut [u64; 2]) -> u16
     ensures { λ r. ⌜ ReadsRun (readRun issue (now (codes .entry))) (now (days .entry)) r (now (refusal .exit)) (now (days .exit)) ⌝ }
 {
     let run = days::read_run(issue, codes);
@@ -117,7 +117,7 @@ pub fn run_read(issue: u8, codes: &[u8], days: &mut [u32; 13], refusal: &mut [u6
 }
 
 // Writes the run for a set of days.
-pub fn set_write(issue: u8, days: &[u32; 13], out: &mut [u8], count: &mut u64) -> u8
+pub fn set_write(issue: u8, days: &[u32; 13], out: &mut [u8], count: &mut u64) -> u16
     ensures { λ r. ⌜ TellsSet issue (now (days .entry)) (now (out .entry)) (now (out .exit)) r (now (count .entry)) (now (count .exit)) ⌝ }
 {
     let cells = *days;
@@ -141,7 +141,7 @@ fn made(year: u16, month: u8, day: u8, style: u8) -> Made
     Date::of(year, month, day)
 }
 
-fn made_number(m: Made) -> u8
+fn made_number(m: Made) -> u16
     ensures { λ r. ⌜ r ≡ number (saidDate m) ⌝ }
 {
     match m {
@@ -179,7 +179,7 @@ pub fn date_make(
     style: u8,
     numbers: &mut [u64; 4],
     text: &mut [u8; 8],
-) -> u8
+) -> u16
     ensures { λ r. ⌜ Makes (makeStyled year month day style) (now (numbers .entry)) (now (text .entry)) r (now (numbers .exit)) (now (text .exit)) ⌝ }
 {
     let m = made(year, month, day, style);

@@ -46,8 +46,9 @@ pub fn unknown() {
     words(b"unknown question")
 }
 
-pub fn refusal(code: u8, place: usize) {
-    named(b"refused ", code);
+pub fn refusal(code: u16, place: usize) {
+    words(b"refused ");
+    number(code as usize);
     words(b" ");
     number(place)
 }

@@ -18,7 +18,7 @@ pub struct DaySet {
 // The number is 0, and the days are those of the run; or a number of document 01 with its place, and for a code's own refusal the
 // code's number (else 0), and no days.
 pub struct Run {
-    pub number: u8,
+    pub number: u16,
     pub place: usize,
     pub code: usize,
     pub days: DaySet,
@@ -27,7 +27,7 @@ pub struct Run {
 // A code of a run as numbers. `refusal` and `place` are the code's own, 0 where it reads; `count` is the number of its days, 0 where it is
 // no D code or where no code stands.
 struct Date {
-    refusal: u8,
+    refusal: u16,
     place: usize,
     month: u8,
     count: usize,
@@ -38,12 +38,12 @@ struct Date {
 
 // What stops a run at a code; the number 0 says that nothing does.
 struct Halt {
-    number: u8,
+    number: u16,
     place: usize,
     code: usize,
 }
 
-fn no_date(refusal: u8, place: usize) -> Date
+fn no_date(refusal: u16, place: usize) -> Date
     ensures { λ r. ⌜ r ≡ noDateOf refusal place ⌝ }
 {
     Date {
@@ -189,7 +189,7 @@ fn with_days(days: DaySet, month: u8, mask: u32) -> DaySet
     d
 }
 
-fn refuse(number: u8, place: usize, code: usize) -> Run
+fn refuse(number: u16, place: usize, code: usize) -> Run
     ensures { λ r. ⌜ r ≡ refuses (stopped number place code) ⌝ }
 {
     Run {

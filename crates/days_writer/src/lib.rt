@@ -194,7 +194,7 @@ fn can_write(days: DaySet) -> bool
     empty_from(days, 1)
 }
 
-fn not_written(number: u8) -> Wrote
+fn not_written(number: u16) -> Wrote
     ensures { λ r. ⌜ r ≡ Wrote.Refused (record { number = number; place = 0 }) ⌝ }
 {
     Wrote::Refused(Fault {

@@ -32,7 +32,7 @@ ghost use Rattle.entry.specs.Code.Judge.{partsOf, keptNumber, kindMark, 
 // The number with which the reader would refuse the record, 0 where it takes it; and the parts of its line, as many as it has, in arrays of plain
 // numbers, which can be lent: what each is, its number, where its text begins and ends. `own` are the characters of the one part that has its own.
 pub struct Entry {
-    pub wrong: u8,
+    pub wrong: u16,
     pub count: usize,
     pub kinds: [u8; 10],
     pub numbers: [u16; 10],
@@ -240,7 +240,7 @@ fn parts(r: Record) -> Entry
 // ---- what the reader would say
 
 // What is wrong with a number: it is judged as it is held, without its digits.
-fn wrong_number(c: Sofar, r: Rule, n: u16) -> u8
+fn wrong_number(c: Sofar, r: Rule, n: u16) -> u16
     ensures { λ w. ⌜ w ≡ numberWrong c r n ⌝ }
 {
     if (r.lo <= n) & (n <= r.hi) & !((r.form == field::CODE_KIND) & (n == 5)) {
@@ -253,7 +253,7 @@ fn wrong_number(c: Sofar, r: Rule, n: u16) -> u8
 }
 
 // What is wrong with a text in the lent bytes.
-fn wrong_place(c: Sofar, r: Rule, lent: &[u8], from: usize, to: usize) -> u8
+fn wrong_place(c: Sofar, r: Rule, lent: &[u8], from: usize, to: usize) -> u16
     ensures { λ w. ⌜ w ≡ readField (mayJoin (c .month) (c .schedule)) c r (textOr (now (lent .entry)) noField from to) .number ⌝ }
 {
     let none = [0; 1];
@@ -270,7 +270,7 @@ fn wrong_part(
     number: u16,
     from: usize,
     to: usize,
-) -> u8
+) -> u16
     ensures { λ w. ⌜ w ≡ partWrong (mayJoin (c .month) (c .schedule)) c r (now (lent .entry)) (now (own .entry)) kind number from to ⌝ }
 {
     if kind == NUMBER {
@@ -311,7 +311,7 @@ fn wrong_field(
     from: &[usize; 10],
     to: &[usize; 10],
     own: &[u8],
-) -> u8
+) -> u16
     ensures { λ w. ⌜ w ≡ wrongTyped (mayJoin (c .month) (c .schedule)) c (now (lent .entry)) n (laid (now (kinds .entry)) (now (numbers .entry)) (now (from .entry)) (now (to .entry)) (now (own .entry))) ⌝ }
 {
     let kind = row::kind_field(n);
@@ -356,7 +356,7 @@ fn comma(s: &[u8], from: usize) -> usize
 }
 
 // The first wrong text of those between commas.
-fn wrong_text(c: Sofar, s: &[u8]) -> u8
+fn wrong_text(c: Sofar, s: &[u8]) -> u16
     ensures { λ n. ⌜ n ≡ textsWrong (mayJoin (c .month) (c .schedule)) c (split (now (s .entry))) ⌝ }
 {
     let r = row::kept_rule();
@@ -374,7 +374,7 @@ fn wrong_text(c: Sofar, s: &[u8]) -> u8
     }
 }
 
-fn wrong_texts(c: Sofar, lent: &[u8], from: usize, to: usize) -> u8
+fn wrong_texts(c: Sofar, lent: &[u8], from: usize, to: usize) -> u16
     ensures { λ n. ⌜ n ≡ textsWrong (mayJoin (c .month) (c .schedule)) c (split (textOr (now (lent .entry)) noField from to)) ⌝ }
 {
     let none = [0; 1];
@@ -391,7 +391,7 @@ fn wrong(
     from: &[usize; 10],
     to: &[usize; 10],
     own: &[u8],
-) -> u8
+) -> u16
     ensures { λ w. ⌜ w ≡ wrongIn (mayJoin (c .month) (c .schedule)) c (now (lent .entry)) n (laid (now (kinds .entry)) (now (numbers .entry)) (now (from .entry)) (now (to .entry)) (now (own .entry))) ⌝ }
 {
     let verdict = order::follow(c.last, n);

@@ -73,8 +73,8 @@ pub struct Sofar {
 
 // The number 0 and what is read, or a refusal's number, for 29 with the code's own number and place.
 pub struct Field {
-    pub number: u8,
-    pub code: u8,
+    pub number: u16,
+    pub code: u16,
     pub place: usize,
     pub n: u16,
     pub amount: u64,
@@ -82,8 +82,8 @@ pub struct Field {
 
 // What is wrong with a code: 0, 29 with the code's own number and place, or 31.
 struct Verdict {
-    number: u8,
-    code: u8,
+    number: u16,
+    code: u16,
     place: usize,
 }
 
@@ -152,7 +152,7 @@ pub fn ordered(c: Sofar, r: Rule, n: u16) -> bool
     true
 }
 
-fn coded(number: u8, code: u8, place: usize) -> Verdict
+fn coded(number: u16, code: u16, place: usize) -> Verdict
     ensures { λ k. ⌜ k ≡ codedOf number code place ⌝ }
 {
     Verdict {
@@ -199,7 +199,7 @@ fn code_fault(c: Sofar, r: Rule, f: &[u8]) -> Verdict
 }
 
 // A refusal with no code's own number.
-fn refused(number: u8) -> Field
+fn refused(number: u16) -> Field
     ensures { λ t. ⌜ t ≡ refusedWith number (fault 0 0) ⌝ }
 {
     Field {

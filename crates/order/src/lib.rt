@@ -92,7 +92,7 @@ fn may(last: u16, n: u16) -> bool
 }
 
 // 32 where records put before n would help it: a header record that does not rise is past help.
-fn refusal(last: u16, n: u16) -> u8
+fn refusal(last: u16, n: u16) -> u16
     ensures { λ r. ⌜ r ≡ refusalOf last n ⌝ }
 {
     if 101 <= n {
@@ -105,7 +105,7 @@ fn refusal(last: u16, n: u16) -> u8
 }
 
 // What a record number is told after the last one: 0 where it may stand, 23 where it is unknown, else 24 or 32.
-pub fn follow(last: u16, n: u16) -> u8
+pub fn follow(last: u16, n: u16) -> u16
     ensures { λ r. ⌜ r ≡ followOf last n ⌝ }
 {
     if known(n) {

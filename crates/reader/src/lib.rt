@@ -15,7 +15,7 @@ ghost use Rattle.reader.specs.Code.Gone.{movesOn, goneOf, goneBy};
 // Where the reader is in the file, and what the records before leave. A file that was refused on opening keeps its number here (20, 21 or 22;
 // 0 where it is open), and the offset in `at`. Any other number is that of a reader that was never opened.
 pub struct State {
-    pub number: u8,
+    pub number: u16,
     pub at: usize,
     pub sofar: Sofar,
 }
@@ -47,7 +47,7 @@ fn is_version(s: &[u8]) -> bool
                     & ((s[4] == b'S') & ((s[5] == b'5') & ((s[6] == b'\r') & true))))))
 }
 
-fn opened(number: u8, at: usize) -> State
+fn opened(number: u16, at: usize) -> State
     ensures { λ r. ⌜ r ≡ openedOf number at ⌝ }
 {
     State {
@@ -75,7 +75,7 @@ pub fn open(s: &[u8]) -> State
 }
 
 // A refusal at a place of the file.
-fn told(number: u8, at: usize) -> Refusal
+fn told(number: u16, at: usize) -> Refusal
     ensures { λ r. ⌜ r ≡ refusalOf number at ⌝ }
 {
     Refusal {
@@ -87,7 +87,7 @@ fn told(number: u8, at: usize) -> Refusal
     }
 }
 
-fn refused(t: State, number: u8) -> Step
+fn refused(t: State, number: u16) -> Step
     ensures { λ r. ⌜ said r ≡ refuses t number ⌝ }
 {
     Step {
@@ -97,7 +97,7 @@ fn refused(t: State, number: u8) -> Step
 }
 
 // What a reader that is not open says: the refusal that it keeps; 24 where opening told none.
-fn said_again(number: u8) -> u8
+fn said_again(number: u16) -> u16
     ensures { λ r. ⌜ r ≡ saidAgain number ⌝ }
 {
     if (20 <= number) & (number <= 22) {

@@ -89,10 +89,10 @@ pub enum Record {
 // One of document 01's numbers; the offset of the record's first byte (for 20 to 22, of the byte at fault); the field, counted from 1, or 0;
 // for 29 the code's own number and place.
 pub struct Refusal {
-    pub number: u8,
+    pub number: u16,
     pub at: usize,
     pub field: usize,
-    pub code: u8,
+    pub code: u16,
     pub place: usize,
 }
 

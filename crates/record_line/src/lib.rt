@@ -223,7 +223,7 @@ fn left(c: Sofar, n: u16, s: &[u8], from: usize, numbers: &[u16; 9], ends: &[usi
 // ---- lines
 
 // A refusal of the record at a place.
-fn refused_at(number: u8, at: usize) -> Refusal
+fn refused_at(number: u16, at: usize) -> Refusal
     ensures { λ r. ⌜ r ≡ refusalOf number at ⌝ }
 {
     Refusal {
@@ -270,12 +270,12 @@ fn record_number(f: &[u8]) -> u16
 
 // What a line begins with: the refusal's number, or 0 and the record's number, and where its first field begins.
 struct Head {
-    refusal: u8,
+    refusal: u16,
     number: u16,
     from: usize,
 }
 
-fn head_with(refusal: u8, number: u16, from: usize) -> Head
+fn head_with(refusal: u16, number: u16, from: usize) -> Head
     ensures { λ r. ⌜ r ≡ record { refusal = refusal; number = number; from = from } ⌝ }
 {
     Head {

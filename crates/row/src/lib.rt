@@ -17,9 +17,9 @@ ghost use Rattle.row.specs.Code.Walk.{needWith, drugNeed, nameNeedOf, wi
 // The number 0, and the place after the CR that ends the fields; or the refusal's number, the field, counted from 1 (0 for 25), and for 29 the
 // code's own number and place.
 pub struct Row {
-    pub number: u8,
+    pub number: u16,
     pub field: usize,
-    pub code: u8,
+    pub code: u16,
     pub place: usize,
     pub after: usize,
 }

@@ -28,5 +28,5 @@ module _ (x : Turn) (state₀ numbers₀ : List ℕ) where
   steps-refused f h told e z = record { returns = rw h; refuses = rw h e; moves = stays h; leaves = rw h; holds = z }
 
   -- and so does the end.
-  pub steps-end : x .next ≡ End → readerOf state₀ ≡ x .state → Steps x state₀ numbers₀ 255 noRefusal state₀ numbers₀
+  pub steps-end : x .next ≡ End → readerOf state₀ ≡ x .state → Steps x state₀ numbers₀ 65535 noRefusal state₀ numbers₀
   steps-end h z = record { returns = rw h; refuses = rw h; moves = stays h; leaves = rw h; holds = z }

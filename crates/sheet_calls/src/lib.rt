@@ -7,7 +7,7 @@ ghost use Rattle.told.specs.States.{readerOf};
 ghost use Rattle.sheet_calls.specs.Calls.{Checks, Opens, Steps};
 
 // Checks a sheet.
-pub fn check(file: &[u8], records: &mut u64, refusal: &mut [u64; 4]) -> u8
+pub fn check(file: &[u8], records: &mut u64, refusal: &mut [u64; 4]) -> u16
     ensures { λ r. ⌜ Checks (checkFile (now (file .entry))) (now (records .entry)) r (now (refusal .exit)) (now (records .exit)) ⌝ }
 {
     let r = reader::check(file);
@@ -17,7 +17,7 @@ pub fn check(file: &[u8], records: &mut u64, refusal: &mut [u64; 4]) -> u8
 }
 
 // Opens a sheet to read.
-pub fn open(file: &[u8], state: &mut [u64; 11]) -> u8
+pub fn open(file: &[u8], state: &mut [u64; 11]) -> u16
     ensures { λ r. ⌜ Opens (openFile (now (file .entry))) r (now (state .exit)) ⌝ }
 {
     let t = reader::open(file);
@@ -31,7 +31,7 @@ pub fn next(
     state: &mut [u64; 11],
     numbers: &mut [u64; 31],
     refusal: &mut [u64; 4],
-) -> u8
+) -> u16
     ensures { λ r. ⌜ Steps (nextRecord (now (file .entry)) (readerOf (now (state .entry)))) (now (state .entry)) (now (numbers .entry)) r (now (refusal .exit)) (now (state .exit)) (now (numbers .exit)) ⌝ }
 {
     let step = reader::next(file, told::reader_state(state));
@@ -50,7 +50,7 @@ pub fn next(
         }
         Handed::End => {
             *refusal = [0; 4];
-            255
+            65535
         }
     }
 }

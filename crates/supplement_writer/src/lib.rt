@@ -13,7 +13,7 @@ ghost use Rattle.supplement_writer.specs.Print.{width as widthOf, whole 
 
 // The number is 0, and the code the eight characters; or the number is 35, and the code eight 0 bytes.
 pub struct Written {
-    pub number: u8,
+    pub number: u16,
     pub code: [u8; 8],
 }
 

@@ -1,4 +1,4 @@
--- What a call of the reader returns is 0, 255 or one of document 01's numbers, whatever the file and the state, also one that no call gave; what
+-- What a call of the reader returns is 0, 65535 or one of document 01's numbers, whatever the file and the state, also one that no call gave; what
 -- was never opened is told 24.
 -- Assumes nothing.
 use Prim.Native.Nat.{ℕ, zero, suc, _+_, _-_, _≤_}
@@ -190,11 +190,11 @@ module _ (m : ℕ) (h : given m ≡ false) where
   closed =
       chosen Closed (eqb m 0) (λ z. (refl, not-kept 24 (λ a b. omega arith)))
       (λ z. let n : m ≡ 0 → ⊥ = eqb-false m 0 z in
-      cases (leb (m - 1) 255)
-      (λ a. subst Closed (sym (min-eq-left (leb-true (m - 1) 255 a)))
+      cases (leb (m - 1) 65535)
+      (λ a. subst Closed (sym (min-eq-left (leb-true (m - 1) 65535 a)))
       (ne-eqb (m - 1) 0 (λ e. not-open (positive m n e)), not-kept (m - 1) (λ b d. not-refused (omega arith) (omega arith))))
-      (λ a. let l : 255 ≤ m - 1 = omega (arith, leb-false (m - 1) 255 a) in
-      subst Closed (sym (min-eq-right l)) (refl, not-kept 255 (λ b d. omega arith))))
+      (λ a. let l : 65535 ≤ m - 1 = omega (arith, leb-false (m - 1) 65535 a) in
+      subst Closed (sym (min-eq-right l)) (refl, not-kept 65535 (λ b d. omega arith))))
 
 -- A state whose second number no call leaves, as that of zeros, was never opened: it is told 24, at the place that it names, and stays.
 pub never-opened : (s n : List ℕ) → given (getD n 1 0) ≡ false → nextRecord s (readerOf n) ≡ reader.refuses (readerOf n) 24

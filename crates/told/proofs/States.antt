@@ -38,7 +38,7 @@ sofar-back {c} w a b = λ j.
     }
 
 -- A reader's number,
-open-back : {n : ℕ} → Within 255 (n ∷ []) → openOf (n + 1) ≡ n
+open-back : {n : ℕ} → Within 65535 (n ∷ []) → openOf (n + 1) ≡ n
 unfolding openOf
 open-back {n} w =
     let z : eqb (n + 1) 0 ≡ false = ne-eqb (n + 1) 0 (λ h. omega arith) in
@@ -46,5 +46,5 @@ open-back {n} w =
     rw (z, m) (at w 0)
 
 -- and its state.
-pub reader-back : {t : Reader} → Within 255 (t .number ∷ []) → FitsSofar (t .sofar) → readerOf (readerNumbers t) ≡ t
+pub reader-back : {t : Reader} → Within 65535 (t .number ∷ []) → FitsSofar (t .sofar) → readerOf (readerNumbers t) ≡ t
 reader-back {t} n w = λ j. record { number = open-back n j; at = t .at; sofar = sofar-back w (t .at) (t .number + 1) j }

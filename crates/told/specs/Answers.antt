@@ -31,11 +31,11 @@ abbrev pub checkedRefusal : Check → List ℕ
 checkedRefusal (Records n) = noRefusal
 checkedRefusal (Not f) = refusalNumbers f
 
--- One call of the reader: the number, 255 at the end,
+-- One call of the reader: the number, 65535 at the end,
 abbrev pub handedNumber : Next → ℕ
 handedNumber (Hands r) = 0
 handedNumber (Refuses f) = f .number
-handedNumber End = 255
+handedNumber End = 65535
 
 -- the record,
 abbrev pub handedRecord : Next → List ℕ → List ℕ
@@ -55,9 +55,9 @@ handedState (Hands r) after before = after
 handedState (Refuses f) after before = before
 handedState End after before = before
 
--- What a call of the reader may return of a file s, whatever the eleven numbers n of its state: 0; 255, where the file's 1Ah stands at the state's
+-- What a call of the reader may return of a file s, whatever the eleven numbers n of its state: 0; 65535, where the file's 1Ah stands at the state's
 -- offset; or one of document 01's numbers for a file.
 pub data Returned (s n : List ℕ) : ℕ → Type 0 where
   handed : Returned s n 0
-  ended : getD n 0 0 < length s → getD s (getD n 0 0) 0 ≡ 0x1a → Returned s n 255
+  ended : getD n 0 0 < length s → getD s (getD n 0 0) 0 ≡ 0x1a → Returned s n 65535
   refuses : {k : ℕ} → 20 ≤ k → k ≤ 32 → Returned s n k

@@ -34,7 +34,7 @@ sofarOf n = record { last = half (getD n 2 0); month = byte (getD n 3 0); rp = r
 
 -- the reader's number, 24 where it was never opened,
 unfoldable pub openOf : ℕ → ℕ
-openOf n = cond (eqb n 0) 24 (byte (n - 1))
+openOf n = cond (eqb n 0) 24 (half (n - 1))
 
 -- and the reader.
 abbrev pub readerOf : List ℕ → Reader

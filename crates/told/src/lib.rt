@@ -38,17 +38,17 @@ pub fn sofar(n: &[u64]) -> Sofar
     }
 }
 
-// The number of a reader whose second number this is: one less, as far as a byte has room; 24, which no opening tells, for 0.
-fn open_of(n: u64) -> u8
+// The number of a reader whose second number this is: one less, as far as sixteen bits have room; 24, which no opening tells, for 0.
+fn open_of(n: u64) -> u16
     ensures { λ r. ⌜ r ≡ openOf n ⌝ }
 {
     if n == 0 {
         return 24;
     }
-    if n < 256 {
-        return (n - 1) as u8;
+    if n < 65536 {
+        return (n - 1) as u16;
     }
-    255
+    65535
 }
 
 // A reader's state of eleven numbers.
@@ -91,7 +91,7 @@ pub fn refusal_numbers(f: Refusal) -> [u64; 4]
     [f.at as u64, f.field as u64, f.code as u64, f.place as u64]
 }
 
-pub fn checked_number(r: Checked) -> u8
+pub fn checked_number(r: Checked) -> u16
     ensures { λ n. ⌜ n ≡ checkedNumber (saidCheck r) ⌝ }
 {
     match r {

@@ -240,7 +240,7 @@ fn among(set: u64, c: u8) -> bool
 }
 
 // One test: no fault where it is passed.
-fn test(number: u8, place: usize, passed: bool) -> Fault
+fn test(number: u16, place: usize, passed: bool) -> Fault
     ensures { λ r. ⌜ r ≡ first (testOf number place passed ∷ []) ⌝ }
 {
     if passed {

@@ -12,7 +12,7 @@ ghost use Rattle.usage_writer.specs.Print.{hourLetter, mark as markOf, d
 
 // The number is 0, and the code the sixteen characters; or the number is 35, and the code sixteen 0 bytes.
 pub struct Written {
-    pub number: u8,
+    pub number: u16,
     pub code: [u8; 16],
 }
 

@@ -17,13 +17,13 @@ pub struct State {
 
 // The number 0, or a refusal's number and after 34 the reader's own; and the state to go on with.
 pub struct Told {
-    pub number: u8,
-    pub own: u8,
+    pub number: u16,
+    pub own: u16,
     pub state: State,
 }
 
 // A refusal: the state as it was.
-fn refused(t: State, number: u8, own: u8) -> Told
+fn refused(t: State, number: u16, own: u16) -> Told
     ensures { λ r. ⌜ r ≡ record { number = number; own = own; state = t } ⌝ }
 {
     Told {

@@ -43,7 +43,7 @@ fn writer_numbers(t: writer::State) -> [u64; 11]
 // ---- the calls
 
 // Opens a buffer to write a sheet.
-pub fn open(out: &mut [u8], state: &mut [u64; 11]) -> u8
+pub fn open(out: &mut [u8], state: &mut [u64; 11]) -> u16
     ensures { λ r. ⌜ OpensBuffer (openBuffer (now (out .entry))) (now (state .entry)) r (now (out .exit)) (now (state .exit)) ⌝ }
 {
     let opened = writer::open(out);
@@ -61,7 +61,7 @@ pub fn put(
     numbers: &[u64; 31],
     lent: &[u8],
     own: &mut u64,
-) -> u8
+) -> u16
     ensures { λ r. ⌜ Puts (putRecord (now (out .entry)) (writerOf (now (state .entry))) (recordOf (now (numbers .entry))) (now (lent .entry))) (now (state .entry)) r (now (own .exit)) (now (out .exit)) (now (state .exit)) ⌝ }
 {
     let put = writer::put(
@@ -79,7 +79,7 @@ pub fn put(
 }
 
 // Writes the end.
-pub fn close(out: &mut [u8], state: &mut [u64; 11], own: &mut u64) -> u8
+pub fn close(out: &mut [u8], state: &mut [u64; 11], own: &mut u64) -> u16
     ensures { λ r. ⌜ Puts (closeBuffer (now (out .entry)) (writerOf (now (state .entry)))) (now (state .entry)) r (now (own .exit)) (now (out .exit)) (now (state .exit)) ⌝ }
 {
     let closed = writer::close(out, writer_state(state));
