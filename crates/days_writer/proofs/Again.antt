@@ -12,6 +12,7 @@ use lib.Dec.{eqb, leb}
 use lib.ListN.{length, getD, take, drop, length-append, length-take, drop-of-length-le}
 use lib.Pow.{pow-mono}
 use lib.Seq.{ext-getD}
+use Rattle.cells.specs.Limits.{runMost}
 use Rattle.cells.proofs.Split.{split}
 use Rattle.supplement.specs.Supplement.{lastDay}
 use Rattle.days.specs.Run.{Code, lastOf, allowed, maskOf, daysAt, setOf}
@@ -245,13 +246,13 @@ most-from issue (suc n) p s c =
     let b = most-from issue n (p + 1) s c in
     omega (arith, length-append (inSixes (monthAt issue p) (daysIn s (monthAt issue p))) (codesFrom issue n (p + 1) (daysIn s)))
 
-pub most-codes : (issue : ℕ) (s : List ℕ) → issue ≤ 12 → Can s → length (runOf issue s) ≤ 67
+pub most-codes : (issue : ℕ) (s : List ℕ) → issue ≤ 12 → Can s → length (runOf issue s) ≤ runMost
 unfolding most monthAt lastDay
 most-codes issue s hi c = go (parts issue s c)
   where
-    go : (runOf issue s ≡ codesFrom issue 12 1 (daysIn s)) ⊎ (runOf issue s ≡ inSixes 0 (daysIn s 0) ++ []) → length (runOf issue s) ≤ 67
+    go : (runOf issue s ≡ codesFrom issue 12 1 (daysIn s)) ⊎ (runOf issue s ≡ inSixes 0 (daysIn s 0) ++ []) → length (runOf issue s) ≤ runMost
     go (inl e) =
-        let a : most issue 12 1 ≤ 67 = leb-true _ _ (under (λ i. leb (most i 12 1) 67) 13 refl (omega arith) issue (omega arith)) in
+        let a : most issue 12 1 ≤ runMost = leb-true _ _ (under (λ i. leb (most i 12 1) runMost) 13 refl (omega arith) issue (omega arith)) in
         let b : length (codesFrom issue 12 1 (daysIn s)) ≤ most issue 12 1 = most-from issue 12 1 s c in
         omega (arith, ap length e)
     go (inr e) = let a = most-in s 0 c (omega arith) in omega (arith, ap length e, length-append (inSixes 0 (daysIn s 0)) [])

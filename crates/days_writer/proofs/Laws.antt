@@ -9,6 +9,7 @@ use borrow.Author.Tests.{leb-true, leb-false}
 use lib.Dec.{leb}
 use lib.ListN.{length}
 use Rattle.cells.specs.Test.{Answer}
+use Rattle.cells.specs.Limits.{runMost}
 use Rattle.cells.proofs.Split.{split}
 use Rattle.cells.proofs.Alike.{and-left, and-right}
 use Rattle.days.specs.Run.{Code, allowed, setOf, takes, aMonth, readRun}
@@ -53,8 +54,8 @@ module _ (issue : ℕ) where
       go [] lo hi g f = absurd (let n = some-code issue [] f in omega arith)
       go (c ∷ cs) lo hi g f = could (setOf (c ∷ cs)) (length-set (c ∷ cs)) (can-name issue c cs lo hi (g .0) (g .1) f)
 
-  -- at most 67 codes
-  pub at-most-67 : (s cells : List ℕ) → readRun issue s ≡ takes cells → length s ≤ 8 * 67
+  -- "at most 67 codes"
+  pub at-most-67 : (s cells : List ℕ) → readRun issue s ≡ takes cells → length s ≤ 8 * runMost
   at-most-67 s cells h =
       let k = held issue s cells h in
       let l : length cells ≡ 13 = ap length (sym (k .names)) ∙ length-set (k .codes) in
