@@ -73,7 +73,7 @@ fn day_text(t: Date) {
 pub fn made(m: Made) {
     match m {
         Made::Day(t) => day_text(t),
-        Made::None => refusal(27, 0),
+        Made::None(f) => refusal(f.number, f.place),
     }
 }
 

@@ -11,13 +11,13 @@ use native.Mathlib.Omega.{arith}
 use borrow.Author.Tests.{le-leb, leb-true, eqb-true, eqb-false}
 use lib.Dec.{leb, eqb}
 use lib.ListN.{length, getD, take, drop}
-use Rattle.number.specs.Number.{figure, figures, value}
+use Rattle.number.specs.Number.{none, figure, figures, value}
 use Rattle.cells.proofs.Split.{split}
 use Rattle.number.proofs.Sizes.{figures-parts}
 use Rattle.cells.specs.Test.{Answer, took}
 use Rattle.date.specs.declared.Made.{Made}
 use Rattle.date.specs.declared.Made.the-variants.{Day, None}
-use Rattle.date.specs.Date.{none, said, leap, lastDay, exists, eraAdds, date, inStyle, isDate, western, eraDate, held, readDate, latestEra, makeWestern, makeEra, makeDate}
+use Rattle.date.specs.Date.{said, leap, lastDay, exists, eraAdds, date, inStyle, isDate, western, eraDate, held, readDate, latestEra, makeWestern, makeEra, makeDate}
 use Rattle.date.specs.Print.{inWestern, inEra, printDate}
 use Rattle.date.specs.declared.Date.{Date}
 use Rattle.date.proofs.Digits.{figure-last}
@@ -26,9 +26,12 @@ use Rattle.date.proofs.Style.{read-none, read-other, read-eight, read-s
 -- Two answers of which document 01's number and values are the same are equal.
 pub one-made : (a b : Made) → said a ≡ said b → a ≡ b
 one-made (Day t) (Day u) e = cc
-one-made (Day t) None e = cc
-one-made None (Day u) e = cc
-one-made None None e = refl
+one-made (Day t) (None g) e = cc
+one-made (None f) (Day u) e = cc
+one-made (None f) (None g) e =
+    let a : f .number ≡ g .number = cc in
+    let b : f .place ≡ g .place = cc in
+    λ i. None (record { number = a i; place = b i })
 
 never : {A : Type 0} {t : Date} → none ≡ took t → A
 never h = absurd (let z : _≡_ {A = ℕ} 0 1 = cc in omega arith)

@@ -8,10 +8,10 @@ use native.Mathlib.Omega.{arith}
 use borrow.Author.Tests.{eq-eqb, ne-eqb, le-leb, leb-true}
 use lib.Dec.{leb, eqb}
 use lib.ListN.{length, getD, take}
-use Rattle.number.specs.Number.{figures, value}
+use Rattle.number.specs.Number.{none, figures, value}
 use Rattle.cells.proofs.Split.{split}
 use Rattle.cells.proofs.Alike.{and-parts}
-use Rattle.date.specs.Date.{none, leap, lastDay, exists, eraAdds, date, inStyle, isDate, two, western, eraDate, held, readDate}
+use Rattle.date.specs.Date.{leap, lastDay, exists, eraAdds, date, inStyle, isDate, two, western, eraDate, held, readDate}
 use Rattle.date.specs.Print.{inWestern, inEra, printDate}
 use Rattle.date.specs.declared.Date.{Date}
 use Rattle.date.proofs.Digits.{first-value, four-value}

@@ -6,7 +6,7 @@ use mathlib.Core.List.{List, [], _∷_}
 use lib.Dec.{leb, eqb}
 use lib.ListN.{length, getD, take, drop}
 use Rattle.cells.specs.Test.{Answer, took, refused}
-use Rattle.number.specs.Number.{figures, value}
+use Rattle.number.specs.Number.{none, figures, value}
 use Rattle.date.specs.declared.Date.{Date}
 use Rattle.date.specs.declared.Made.{Made}
 use Rattle.date.specs.declared.Made.the-variants.{Day, None}
@@ -53,16 +53,12 @@ western s = date 0 (value 0 (take 4 s)) (two s 4) (two s 6)
 abbrev pub eraDate : List ℕ → Date
 eraDate s = date (value 0 (take 1 s)) (eraAdds (value 0 (take 1 s)) + two s 1) (two s 3) (two s 5)
 
--- "No such day or year is 27, place 0."
-abbrev pub none : Answer Date
-none = refused 27 0
-
 -- Document 01's number and values of what a date is read or made as.
 abbrev pub said : Made → Answer Date
 said (Day t) = took t
-said None = none
+said (None f) = refused (f .number) (f .place)
 
--- The date, where it is one.
+-- The date, where it is one. "No such day or year is 27, place 0."
 abbrev pub held : Date → Answer Date
 held t = cond (isDate t) (took t) none
 

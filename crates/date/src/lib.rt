@@ -1,9 +1,10 @@
 // Dates: western and era style, read, kept, made and printed.
+use cells::Fault;
 ghost use mathlib.Core.Path.{_≡_};
 ghost use mathlib.Core.Bool.{true};
 ghost use Prim.Native.Nat.{_+_, _%_, _≤_};
 ghost use lib.ListN.{length};
-ghost use Rattle.number.specs.Number.{figures as figuresOf};
+ghost use Rattle.number.specs.Number.{none as noDay, figures as figuresOf};
 ghost use Rattle.date.specs.Date.{leap as leapOf, lastDay, exists as existsOf, eraAdds, inStyle, isDate, said, held as heldOf, two as twoOf, readDate, latestEra, makeWestern, makeEra, makeDate};
 ghost use Rattle.date.specs.Print.{figure as figureOf, inWestern, inEra, printDate, text};
 
@@ -15,10 +16,10 @@ pub struct Date {
     pub day: u8,
 }
 
-// A day, or none: 27.
+// A day, or why there is none.
 pub enum Made {
     Day(Date),
-    None,
+    None(Fault),
 }
 
 // A date's characters, and 0 bytes after them; the length is 0 where the date is none.
@@ -130,13 +131,23 @@ fn is_date(t: Date) -> bool
     in_style(t) & exists(t.year, t.month, t.day)
 }
 
+// No such day or year: 27.
+fn none() -> Made
+    ensures { λ r. ⌜ said r ≡ noDay ⌝ }
+{
+    Made::None(Fault {
+        number: 27,
+        place: 0,
+    })
+}
+
 fn held(t: Date) -> Made
     ensures { λ r. ⌜ said r ≡ heldOf t ⌝ }
 {
     if is_date(t) {
         return Made::Day(t);
     }
-    Made::None
+    none()
 }
 
 // The latest era whose year 01 is not after a year; 0 for western style.
@@ -195,7 +206,7 @@ fn read_era(s: &[u8]) -> Made
 {
     let era = s[0] - b'0';
     if era == 0 {
-        return Made::None;
+        return none();
     }
     held(Date {
         era,
@@ -210,7 +221,7 @@ pub fn read(s: &[u8]) -> Made
     ensures { λ r. ⌜ said r ≡ readDate (now (s .entry)) ⌝ }
 {
     if !number::figures(s) {
-        return Made::None;
+        return none();
     }
     if s.len() == 8 {
         return read_western(s);
@@ -218,7 +229,7 @@ pub fn read(s: &[u8]) -> Made
     if s.len() == 7 {
         return read_era(s);
     }
-    Made::None
+    none()
 }
 
 // The last digit of a number.

@@ -134,7 +134,7 @@ fn with_rp(bag: Bag, x: Record101) -> Bag {
 fn issue_date(t: Date) {
     match Date::of(t.year, t.month, t.day) {
         Made::Day(d) => print_right(printed::day(d), 0),
-        Made::None => {}
+        Made::None(_) => {}
     }
 }
 

@@ -19,9 +19,12 @@ use Rattle.number.proofs.Print.{printed, amount-printed}
 -- Two readings of which document 01's number and values are the same are equal.
 pub one-reading : (a b : Number) → said a ≡ said b → a ≡ b
 one-reading (Is m) (Is n) e = cc
-one-reading (Is m) Not e = cc
-one-reading Not (Is n) e = cc
-one-reading Not Not e = refl
+one-reading (Is m) (Not g) e = cc
+one-reading (Not f) (Is n) e = cc
+one-reading (Not f) (Not g) e =
+    let a : f .number ≡ g .number = cc in
+    let b : f .place ≡ g .place = cc in
+    λ i. Not (record { number = a i; place = b i })
 
 taken : (b : Bool) (v n : ℕ) → cond b (took v) none ≡ took n → (b ≡ true) × (v ≡ n)
 taken true v n h = (refl, cc)

@@ -9,14 +9,14 @@ use Rattle.cells.specs.Test.{Answer, took, refused}
 use Rattle.number.specs.declared.Number.{Number}
 use Rattle.number.specs.declared.Number.the-variants.{Is, Not}
 
--- "27 number, date, amount, site or drug code": a field that is no number, or no amount.
-abbrev pub none : Answer ℕ
+-- "27 number, date, amount, site or drug code": a field that is none, of whichever kind was asked for.
+abbrev pub none : {A : Type 0} → Answer A
 none = refused 27 0
 
 -- Document 01's number and values of what a field is read as.
 abbrev pub said : Number → Answer ℕ
 said (Is n) = took n
-said Not = none
+said (Not f) = refused (f .number) (f .place)
 
 -- A digit, 0 to 9.
 unfoldable pub figure : ℕ → Bool

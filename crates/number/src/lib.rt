@@ -1,16 +1,27 @@
 // Numbers and amounts as a field writes them.
+use cells::Fault;
 ghost use mathlib.Core.Path.{_≡_};
 ghost use mathlib.Core.Bool.{true};
 ghost use Prim.Native.Nat.{_-_, _^_, _<_, _≤_};
 ghost use lib.ListN.{length, replicate};
-ghost use Rattle.number.specs.Number.{figure as figureOf, figures as figuresOf, value as valueOf, shortest as shortestOf, said, readNumber};
+ghost use Rattle.number.specs.Number.{figure as figureOf, figures as figuresOf, value as valueOf, shortest as shortestOf, said, none as noNumber, readNumber};
 ghost use Rattle.number.specs.Amount.{before, fraction as fractionOf, readAmount};
 ghost use Rattle.number.specs.Code.Parts.{wholeNumber, within as withinOf, afterPoint, withFraction};
 
-// A field's value, or none of the form and range asked for.
+// A field's value, or why it is none of the form and range asked for.
 pub enum Number {
     Is(u64),
-    Not,
+    Not(Fault),
+}
+
+// No number, no amount: 27.
+fn none() -> Number
+    ensures { λ r. ⌜ said r ≡ noNumber ⌝ }
+{
+    Number::Not(Fault {
+        number: 27,
+        place: 0,
+    })
 }
 
 fn figure(c: u8) -> bool
@@ -83,10 +94,10 @@ fn within(n: u64, lo: u64, hi: u64) -> Number
     ensures { λ r. ⌜ said r ≡ withinOf lo hi n ⌝ }
 {
     if n < lo {
-        return Number::Not;
+        return none();
     }
     if hi < n {
-        return Number::Not;
+        return none();
     }
     Number::Is(n)
 }
@@ -114,13 +125,13 @@ pub fn read(s: &[u8], lo: u16, hi: u16) -> Number
     ensures { λ r. ⌜ said r ≡ readNumber lo hi (now (s .entry)) ⌝ }
 {
     if 5 < s.len() {
-        return Number::Not;
+        return none();
     }
     if s.len() == 0 {
-        return Number::Not;
+        return none();
     }
     if (s[0] == b'0') & (s.len() != 1) {
-        return Number::Not;
+        return none();
     }
     within(whole_number(s), lo as u64, hi as u64)
 }
@@ -161,7 +172,7 @@ fn after_point(s: &[u8], n: u64) -> Number
     if fraction(s) {
         return Number::Is(with_zeros(value(s, n), 5 - s.len()));
     }
-    Number::Not
+    none()
 }
 
 // The amount whose whole part is n, and ends at a place: there the point stands, or nothing.
@@ -182,11 +193,11 @@ pub fn read_amount(s: &[u8]) -> Number
 {
     let at = point(s);
     if 6 < at {
-        return Number::Not;
+        return none();
     }
     let whole = &s[..at];
     if shortest(whole) {
         return with_fraction(s, at, value(whole, 0));
     }
-    Number::Not
+    none()
 }

@@ -17,10 +17,13 @@ shared-slice-read-era c = search needs
 sub-era : tie.Need-sub-era
 sub-era c = let p = c .before .before .pre in digit-at (c .before .before .args .s .now) 0 (p .0) (omega arith) .0
 
+none-requires : tie.Need-none-requires
+none-requires c κs = search needs
+
 returns : tie.Need-returns
 returns c =
-    let p = c .before .before .before .pre in
-    sym (read-zero (c .before .before .before .args .s .now) (p .0) (p .1) (c .if1 .taken))
+    let p = c .before .before .before .before .pre in
+    c .none .ensures ∙ sym (read-zero (c .before .before .before .before .args .s .now) (p .0) (p .1) (c .before .if1 .taken))
 
 era-adds-requires : tie.Need-era-adds-requires
 era-adds-requires c κs = search needs
@@ -58,6 +61,7 @@ read-era-spec =
     (tie.spec
     shared-slice-read-era
     sub-era
+    none-requires
     returns
     era-adds-requires
     two-requires

@@ -32,9 +32,13 @@ returns c =
     let a = c .before .before .before .before .before .args in
     (λ i. took ((c .with-zeros .ensures ∙ (λ j. value (c .before .value .ensures j) (replicate (5 - length (a .s .now)) 48))) i)) ∙ sym (point-some (a .n) (a .s .now) (sym (c .before .before .before .fraction .ensures) ∙ c .before .before .if1 .taken))
 
+none-requires : tie.Need-none-requires
+none-requires c κs = search needs
+
 returns-2 : tie.Need-returns-2
 returns-2 c =
-    let a = c .before .before .before .args in sym (point-none (a .n) (a .s .now) (sym (c .before .fraction .ensures) ∙ c .if1 .left))
+    let a = c .before .before .before .before .args in
+    c .none .ensures ∙ sym (point-none (a .n) (a .s .now) (sym (c .before .before .fraction .ensures) ∙ c .before .if1 .left))
 
 pub after-point-spec : {M : Type 1} → statement M
 after-point-spec =
@@ -45,4 +49,5 @@ after-point-spec =
     sub-with-zeros
     with-zeros-requires
     returns
+    none-requires
     returns-2)

@@ -8,19 +8,32 @@ use Rattle.number.proofs.Whole.{number-long, number-empty, number-led, 
 use Rattle.number.proofs.read.Statement.{statement}
 use Rattle.number.proofs.read.Tie as tie
 
+none-requires : tie.Need-none-requires
+none-requires c κs = search needs
+
 returns : tie.Need-returns
 returns c =
-    let a = c .before .before .args in sym (number-long (a .lo) (a .hi) (a .s .now) (omega arith) (omega arith))
+    let a = c .before .before .before .args in
+    c .none .ensures ∙ sym (number-long (a .lo) (a .hi) (a .s .now) (omega arith) (omega arith))
+
+none-requires-2 : tie.Need-none-requires-2
+none-requires-2 c κs = search needs
 
 returns-2 : tie.Need-returns-2
-returns-2 c = let a = c .before .before .before .args in sym (number-empty (a .lo) (a .hi) (a .s .now) (c .if2 .taken))
+returns-2 c =
+    let a = c .before .before .before .before .args in
+    c .none2 .ensures ∙ sym (number-empty (a .lo) (a .hi) (a .s .now) (c .before .if2 .taken))
 
 shared-slice-read-if3 : tie.Need-shared-slice-read-if3
 shared-slice-read-if3 c = search needs
 
+none-requires-3 : tie.Need-none-requires-3
+none-requires-3 c κs = search needs
+
 returns-3 : tie.Need-returns-3
 returns-3 c =
-    let a = c .before .before .before .before .before .args in sym (number-led (a .lo) (a .hi) (a .s .now) (c .before .before .if2 .left) (c .if3 .taken))
+    let a = c .before .before .before .before .before .before .args in
+    c .none3 .ensures ∙ sym (number-led (a .lo) (a .hi) (a .s .now) (c .before .before .before .if2 .left) (c .before .if3 .taken))
 
 whole-number-requires : tie.Need-whole-number-requires
 whole-number-requires c κs = search needs
@@ -38,9 +51,12 @@ pub read-spec : {M : Type 1} → statement M
 read-spec =
     tie.close
     (tie.spec
+    none-requires
     returns
+    none-requires-2
     returns-2
     shared-slice-read-if3
+    none-requires-3
     returns-3
     whole-number-requires
     within-requires

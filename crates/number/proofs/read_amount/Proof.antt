@@ -12,8 +12,13 @@ use Rattle.number.proofs.read_amount.Tie as tie
 point-requires : tie.Need-point-requires
 point-requires c κs = search needs
 
+none-requires : tie.Need-none-requires
+none-requires c κs = search needs
+
 returns : tie.Need-returns
-returns c = sym (amount-far (c .before .before .before .args .s .now) (c .before .point .result) (c .before .point .ensures) (c .if1 .taken))
+returns c =
+    let p = c .before .before .point in
+    c .none .ensures ∙ sym (amount-far (c .before .before .before .before .args .s .now) (p .result) (p .ensures) (c .before .if1 .taken))
 
 slice-aggregate-whole : tie.Need-slice-aggregate-whole
 slice-aggregate-whole c =
@@ -40,20 +45,26 @@ returns-2 c =
     let p = c .before .before .before .before .before .before .point in
     c .with-fraction .ensures ∙ (λ i. withFraction (c .before .value .ensures i) (c .before .before .before .before .before .before .before .before .args .s .now)) ∙ sym (amount-well (c .before .before .before .before .before .before .before .before .args .s .now) (p .result) (p .ensures) (c .before .before .before .before .before .if1 .left) (sym (c .before .before .before .shortest .ensures) ∙ c .before .before .if2 .taken))
 
+none-requires-2 : tie.Need-none-requires-2
+none-requires-2 c κs = search needs
+
 returns-3 : tie.Need-returns-3
 returns-3 c =
-    let p = c .before .before .before .before .point in
-    sym (amount-badly (c .before .before .before .before .before .before .args .s .now) (p .result) (p .ensures) (sym (c .before .shortest .ensures) ∙ c .if2 .left))
+    let p = c .before .before .before .before .before .point in
+    let s = c .before .before .before .before .before .before .before .args .s .now in
+    c .none2 .ensures ∙ sym (amount-badly s (p .result) (p .ensures) (sym (c .before .before .shortest .ensures) ∙ c .before .if2 .left))
 
 pub read-amount-spec : {M : Type 1} → statement M
 read-amount-spec =
     tie.close
     (tie.spec
     point-requires
+    none-requires
     returns
     slice-aggregate-whole
     shortest-requires
     value-requires
     with-fraction-requires
     returns-2
+    none-requires-2
     returns-3)
