@@ -1,17 +1,19 @@
 -- A line put byte by byte and part by part, as the loops go along it.
 -- Assumes nothing.
 use Prim.Native.Nat.{ℕ, suc, _+_, _-_, _≤_, _<_, min}
-use mathlib.Core.Path.{_≡_, _∙_, sym, ap}
+use mathlib.Core.Path.{_≡_, _∙_, ap}
 use mathlib.Core.Bool.{Bool, false}
 use mathlib.Core.List.{List, [], _∷_, _++_}
 use native.Mathlib.Omega.{arith}
 use borrow.Author.Tests.{eq-eqb, ne-eqb, leb-true, leb-false, le-leb, lt-leb}
 use lib.Dec.{leb}
-use lib.ListN.{length, getD, set, take, drop, length-append, drop-of-length-le}
-use lib.Seq.{sets, slice, take-add, drop-at, length-take-le, drop-cons}
+use lib.ListN.{length, getD, set, drop, length-append, drop-of-length-le}
+use lib.Seq.{sets, drop-cons}
 use Rattle.cells.proofs.Split.{split as cases}
+use Rattle.cells.specs.Limits.{fileMost}
 use Rattle.number.specs.Print.{printNumber}
-use Rattle.laid.specs.Laid.{noField, textOr, Laid, textBytes, partBytes, partAt, separatorOf, lineFrom, roomFor}
+use Rattle.text.specs.Lent.{noField, textOr}
+use Rattle.laid.specs.Laid.{Laid, textBytes, partBytes, partAt, separatorOf, lineFrom, roomFor}
 
 -- ---- bytes
 -- One byte more, and those after it.
@@ -32,13 +34,6 @@ sets-more out [] q at = let z : at + 0 ≡ at = omega arith in rw z
 sets-more out (b ∷ p) q at =
     let z : suc at + length p ≡ at + suc (length p) = omega arith in
     sets-more (set out at b) p q (suc at) ∙ rw z
-
--- A text in the lent bytes, as it is cut out.
-pub part : (lent : List ℕ) (from to : ℕ) → from ≤ to → to ≤ length lent → take (to - from) (drop from lent) ≡ slice from to lent
-part lent from to h l =
-    let e : to ≡ from + (to - from) = omega arith in
-    sym (ap (λ (n : ℕ). drop from (take n lent)) e ∙ ap (drop from) (take-add from (to - from) lent)
-    ∙ drop-at (take from lent) (take (to - from) (drop from lent)) from (length-take-le from lent (omega arith)))
 
 -- ---- parts
 -- k parts that have i before them have room in so many bytes.
@@ -97,17 +92,17 @@ last-byte lent p count i h = let z : count - i ≡ 0 = omega arith in rw z
 
 -- ---- room at a place
 -- none past the end,
-pub past : (size at : ℕ) (l : List ℕ) → min size 16384 ≤ at → roomFor size at l ≡ false
+pub past : (size at : ℕ) (l : List ℕ) → min size fileMost ≤ at → roomFor size at l ≡ false
 unfolding roomFor
-past size at l h = lt-leb (at + (length l + 1)) (min size 16384) (omega arith)
+past size at l h = lt-leb (at + (length l + 1)) (min size fileMost) (omega arith)
 
 -- and before it as much as is left there without the 1Ah.
-pub inside : (size at : ℕ) (l : List ℕ) (most : ℕ) → most ≡ min size 16384 → at < most → roomFor size at l ≡ leb (length l) (most - at - 1)
+pub inside : (size at : ℕ) (l : List ℕ) (most : ℕ) → most ≡ min size fileMost → at < most → roomFor size at l ≡ leb (length l) (most - at - 1)
 unfolding roomFor
 inside size at l most m h =
     cases (leb (length l) (most - at - 1))
-    (λ e. let k : length l ≤ most - at - 1 = leb-true _ _ e in rw e (le-leb (at + (length l + 1)) (min size 16384) (omega arith)))
-    (λ e. let k : most - at - 1 < length l = leb-false _ _ e in rw e (lt-leb (at + (length l + 1)) (min size 16384) (omega arith)))
+    (λ e. let k : length l ≤ most - at - 1 = leb-true _ _ e in rw e (le-leb (at + (length l + 1)) (min size fileMost) (omega arith)))
+    (λ e. let k : most - at - 1 < length l = leb-false _ _ e in rw e (lt-leb (at + (length l + 1)) (min size fileMost) (omega arith)))
 
 -- ---- the bytes of a part, by what it is
 module _ (lent own : List ℕ) (kind number from to : ℕ) where
@@ -119,6 +114,6 @@ module _ (lent own : List ℕ) (kind number from to : ℕ) where
   unfolding partBytes textBytes
   as-text n h = rw (ne-eqb kind 0 n, eq-eqb kind 1 h)
 
-  pub as-own : (kind ≡ 0 → ⊥) → (kind ≡ 1 → ⊥) → partBytes lent own kind number from to ≡ own
+  pub as-own : (kind ≡ 0 → ⊥) → (kind ≡ 1 → ⊥) → partBytes lent own kind number from to ≡ textOr own noField from to
   unfolding partBytes textBytes
   as-own n h = rw (ne-eqb kind 0 n, ne-eqb kind 1 h)

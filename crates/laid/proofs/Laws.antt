@@ -8,8 +8,9 @@ use native.Mathlib.Omega.{arith}
 use borrow.Author.Tests.{leb-true, le-leb, lt-leb}
 use lib.ListN.{length, length-append}
 use lib.Seq.{sets}
+use Rattle.cells.specs.Limits.{fileMost}
 use Rattle.cells.proofs.Split.{split as cases}
-use Rattle.laid.specs.Laid.{Laid, partAt, separatorOf, lineFrom, lineOf, roomFor, Put, nothing, putWhole, putParts}
+use Rattle.laid.specs.Laid.{Laid, partAt, separatorOf, lineFrom, lineOf, roomFor, Put, nothing, putWhole, partsMost, putParts}
 
 -- A line has a byte or more.
 line-some : (lent : List ℕ) (p : Laid) (k i : ℕ) → 1 ≤ length (lineFrom lent p k i)
@@ -20,22 +21,22 @@ line-some lent p (suc k) i = omega (arith, length-append (partAt lent p i) (sepa
 -- There is room in the buffer for what is put.
 pub fits-in : (size at : ℕ) (l : List ℕ) → roomFor size at l ≡ true → at + length l ≤ size
 unfolding roomFor
-fits-in size at l h = let k : at + (length l + 1) ≤ min size 16384 = leb-true _ _ h in omega arith
+fits-in size at l h = let k : at + (length l + 1) ≤ min size fileMost = leb-true _ _ h in omega arith
 
--- Of more than ten parts nothing is put.
-pub too-many : (out : List ℕ) (at count : ℕ) (lent : List ℕ) (p : Laid) → 10 < count → nothing out at ≡ putParts out at count lent p
+-- Of more parts than a line has nothing is put.
+pub too-many : (out : List ℕ) (at count : ℕ) (lent : List ℕ) (p : Laid) → partsMost < count → nothing out at ≡ putParts out at count lent p
 unfolding putParts
-too-many out at count lent p h = rw (lt-leb count 10 h)
+too-many out at count lent p h = rw (lt-leb count partsMost h)
 
-module _ (out : List ℕ) (at count : ℕ) (lent : List ℕ) (p : Laid) (few : count ≤ 10) where
-  -- What is put of ten or fewer, by whether there is room.
+module _ (out : List ℕ) (at count : ℕ) (lent : List ℕ) (p : Laid) (few : count ≤ partsMost) where
+  -- What is put of as many or fewer, by whether there is room.
   pub has : roomFor (length out) at (lineOf lent p count) ≡ true → putParts out at count lent p ≡ record { end = at + length (lineOf lent p count); buffer = sets out at (lineOf lent p count) }
   unfolding putParts putWhole
-  has h = rw (le-leb count 10 few, h)
+  has h = rw (le-leb count partsMost few, h)
 
   pub has-not : roomFor (length out) at (lineOf lent p count) ≡ false → putParts out at count lent p ≡ nothing out at
   unfolding putParts putWhole
-  has-not h = rw (le-leb count 10 few, h)
+  has-not h = rw (le-leb count partsMost few, h)
 
   module _ (w : Put) (q : w ≡ putParts out at count lent p) where
     ends : putParts out at count lent p .end ≡ w .end

@@ -1,23 +1,17 @@
--- A line laid from its parts: each a number's digits, a text in lent bytes, or characters of its own.
+-- A line laid from its parts: each a number's digits, a text in lent bytes, or a text in bytes of the line's own.
 -- Assumes nothing.
 use Prim.Native.Nat.{ℕ, zero, suc, _+_, min}
 use mathlib.Core.Bool.{Bool, cond}
 use mathlib.Core.List.{List, [], _∷_, _++_}
 use lib.Dec.{eqb, leb}
 use lib.ListN.{length, getD}
-use lib.Seq.{slice, sets}
+use lib.Seq.{sets}
+use Rattle.cells.specs.Limits.{fileMost}
 use Rattle.number.specs.Print.{printNumber}
+use Rattle.text.specs.Lent.{noField, textOr}
 
 -- ---- parts
--- A field that no rule takes: what can't be written is written so, and then refused by the rule of its field.
-abbrev pub noField : List ℕ
-noField = 0 ∷ []
-
--- A text in the lent bytes; of a place outside them, `none`.
-unfoldable pub textOr : List ℕ → List ℕ → ℕ → ℕ → List ℕ
-textOr lent none from to = cond (leb from to) (cond (leb to (length lent)) (slice from to lent) none) none
-
--- Parts in arrays of plain numbers: what each is, its number, where its text begins and ends; and the characters of the one part that has its own.
+-- Parts in arrays of plain numbers: what each is, its number, where its text begins and ends; and the bytes that the line's own texts are places of.
 pub record Laid : Type 0 where
   pub kinds : List ℕ
   pub numbers : List ℕ
@@ -28,9 +22,9 @@ pub record Laid : Type 0 where
 abbrev pub laid : List ℕ → List ℕ → List ℕ → List ℕ → List ℕ → Laid
 laid kinds numbers from to own = record { kinds = kinds; numbers = numbers; from = from; to = to; own = own }
 
--- The bytes of a part that is no number.
+-- The bytes of a part that is no number: a place of the lent bytes, or of the line's own.
 unfoldable pub textBytes : List ℕ → List ℕ → ℕ → ℕ → ℕ → List ℕ
-textBytes lent own kind from to = cond (eqb kind 1) (textOr lent noField from to) own
+textBytes lent own kind from to = cond (eqb kind 1) (textOr lent noField from to) (textOr own noField from to)
 
 -- The bytes of a part.
 unfoldable pub partBytes : List ℕ → List ℕ → ℕ → ℕ → ℕ → ℕ → List ℕ
@@ -54,9 +48,9 @@ lineFrom lent p (suc k) i = partAt lent p i ++ separatorOf i (i + suc k) ∷ lin
 abbrev pub lineOf : List ℕ → Laid → ℕ → List ℕ
 lineOf lent p count = lineFrom lent p count 0
 
--- It has room at a place: the place plus the line with CR LF plus the closing 1Ah passes neither the buffer nor 16,384.
+-- It has room at a place: the place plus the line with CR LF plus the closing 1Ah passes neither the buffer nor a file's limit.
 unfoldable pub roomFor : ℕ → ℕ → List ℕ → Bool
-roomFor size at l = leb (at + (length l + 1)) (min size 16384)
+roomFor size at l = leb (at + (length l + 1)) (min size fileMost)
 
 -- ---- putting it
 -- Where a line ends that was put, and the buffer after it.
@@ -72,6 +66,10 @@ nothing out at = record { end = at; buffer = out }
 unfoldable pub putWhole : List ℕ → ℕ → List ℕ → Put
 putWhole out at l = cond (roomFor (length out) at l) (record { end = at + length l; buffer = sets out at l }) (nothing out at)
 
--- A line of parts, of which there are ten at most.
+-- How many parts a line has at most.
+abbrev pub partsMost : ℕ
+partsMost = 13
+
+-- A line of parts, where they are no more than that.
 unfoldable pub putParts : List ℕ → ℕ → ℕ → List ℕ → Laid → Put
-putParts out at count lent p = cond (leb count 10) (putWhole out at (lineOf lent p count)) (nothing out at)
+putParts out at count lent p = cond (leb count partsMost) (putWhole out at (lineOf lent p count)) (nothing out at)

@@ -2,12 +2,20 @@
 ghost use mathlib.Core.Path.{_≡_};
 ghost use Prim.Native.Nat.{_+_, _≤_, _<_, min};
 ghost use lib.Dec.{leb};
-ghost use lib.ListN.{length, take};
+ghost use lib.ListN.{length};
 ghost use lib.Seq.{sets};
+ghost use Rattle.cells.specs.Limits.{fileMost};
 ghost use Rattle.number.specs.Print.{printNumber};
-ghost use Rattle.laid.specs.Laid.{noField, textOr, laid, partBytes, separatorOf, lineOf, roomFor, putParts};
+ghost use Rattle.text.specs.Lent.{noField, textOr};
+ghost use Rattle.laid.specs.Laid.{laid, partBytes, separatorOf, lineOf, roomFor, partsMost, putParts};
 
-// What a part of the line is: a number's digits, a text in the bytes that are lent, or characters of its own.
+// How many parts a line has at most.
+pub const PARTS: usize = 13;
+
+// How long a file is at most.
+const FILE_MOST: usize = 16384;
+
+// What a part of the line is: a number's digits, a text in the bytes that are lent, or a text in bytes of the line's own.
 pub const NUMBER: u8 = 0;
 
 pub const TEXT: u8 = 1;
@@ -16,35 +24,12 @@ pub const OWN: u8 = 2;
 
 // How much of a buffer a file may fill.
 pub fn limit(length: usize) -> usize
-    ensures { λ r. ⌜ r ≡ min length 16384 ⌝ }
+    ensures { λ r. ⌜ r ≡ min length fileMost ⌝ }
 {
-    if length < 16384 {
+    if length < FILE_MOST {
         return length;
     }
-    16384
-}
-
-// The first n bytes, or all where there are fewer.
-pub fn first(s: &[u8], n: usize) -> &[u8]
-    ensures { λ r. ⌜ now r ≡ take n (now (s .entry)) ⌝ }
-{
-    if s.len() < n {
-        return s;
-    }
-    &s[0..n]
-}
-
-// A text in the lent bytes; a place outside them is `none`.
-pub fn text<'a>(lent: &'a [u8], none: &'a [u8], from: usize, to: usize) -> &'a [u8]
-    ensures { λ r. ⌜ now r ≡ textOr (now (lent .entry)) (now (none .entry)) from to ⌝ }
-{
-    if to < from {
-        return none;
-    }
-    if lent.len() < to {
-        return none;
-    }
-    &lent[from..to]
+    FILE_MOST
 }
 
 // ---- how long a line is
@@ -68,12 +53,12 @@ fn digits(n: u16) -> usize
     5
 }
 
-// How many bytes a text in the lent bytes has.
+// How many bytes a text at a place has.
 fn text_width(lent: &[u8], from: usize, to: usize) -> usize
     ensures { λ r. ⌜ r ≡ length (textOr (now (lent .entry)) noField from to) ⌝ }
 {
     let none = [0; 1];
-    text(lent, &none, from, to).len()
+    text::at(lent, &none, from, to).len()
 }
 
 // How many bytes a part has.
@@ -86,21 +71,21 @@ fn width(lent: &[u8], own: &[u8], kind: u8, number: u16, from: usize, to: usize)
     if kind == TEXT {
         return text_width(lent, from, to);
     }
-    own.len()
+    text_width(own, from, to)
 }
 
 // Do the parts, a byte after each, and the LF have room?
 fn fits(
     count: usize,
     lent: &[u8],
-    kinds: &[u8; 10],
-    numbers: &[u16; 10],
-    from: &[usize; 10],
-    to: &[usize; 10],
+    kinds: &[u8; PARTS],
+    numbers: &[u16; PARTS],
+    from: &[usize; PARTS],
+    to: &[usize; PARTS],
     own: &[u8],
     room: usize,
 ) -> bool
-    requires { ⌜ count ≤ 10 ⌝ }
+    requires { ⌜ count ≤ partsMost ⌝ }
     ensures { λ r. ⌜ r ≡ leb (length (lineOf (now (lent .entry)) (laid (now (kinds .entry)) (now (numbers .entry)) (now (from .entry)) (now (to .entry)) (now (own .entry))) count)) room ⌝ }
 {
     let mut left = room;
@@ -123,13 +108,13 @@ fn has_room(
     at: usize,
     count: usize,
     lent: &[u8],
-    kinds: &[u8; 10],
-    numbers: &[u16; 10],
-    from: &[usize; 10],
-    to: &[usize; 10],
+    kinds: &[u8; PARTS],
+    numbers: &[u16; PARTS],
+    from: &[usize; PARTS],
+    to: &[usize; PARTS],
     own: &[u8],
 ) -> bool
-    requires { ⌜ count ≤ 10 ⌝ }
+    requires { ⌜ count ≤ partsMost ⌝ }
     ensures { λ r. ⌜ r ≡ roomFor length at (lineOf (now (lent .entry)) (laid (now (kinds .entry)) (now (numbers .entry)) (now (from .entry)) (now (to .entry)) (now (own .entry))) count) ⌝ }
 {
     let most = limit(length);
@@ -186,7 +171,7 @@ fn put_text(out: &mut [u8], at: usize, lent: &[u8], from: usize, to: usize) -> u
     ensures { λ r. ⌜ (now (out .exit) ≡ sets (now (out .entry)) at (textOr (now (lent .entry)) noField from to)) × (r ≡ at + length (textOr (now (lent .entry)) noField from to)) ⌝ }
 {
     let none = [0; 1];
-    copy(out, at, text(lent, &none, from, to))
+    copy(out, at, text::at(lent, &none, from, to))
 }
 
 fn put_part(
@@ -208,7 +193,7 @@ fn put_part(
     if kind == TEXT {
         return put_text(out, at, lent, from, to);
     }
-    copy(out, at, own)
+    put_text(out, at, own, from, to)
 }
 
 // The line with its CR LF.
@@ -217,13 +202,13 @@ fn put_line(
     at: usize,
     count: usize,
     lent: &[u8],
-    kinds: &[u8; 10],
-    numbers: &[u16; 10],
-    from: &[usize; 10],
-    to: &[usize; 10],
+    kinds: &[u8; PARTS],
+    numbers: &[u16; PARTS],
+    from: &[usize; PARTS],
+    to: &[usize; PARTS],
     own: &[u8],
 ) -> usize
-    requires { ⌜ (count ≤ 10) × (at + length (lineOf (now lent) (laid (now kinds) (now numbers) (now from) (now to) (now own)) count) ≤ length (now out)) ⌝ }
+    requires { ⌜ (count ≤ partsMost) × (at + length (lineOf (now lent) (laid (now kinds) (now numbers) (now from) (now to) (now own)) count) ≤ length (now out)) ⌝ }
     ensures { λ r. ⌜ (now (out .exit) ≡ sets (now (out .entry)) at (lineOf (now (lent .entry)) (laid (now (kinds .entry)) (now (numbers .entry)) (now (from .entry)) (now (to .entry)) (now (own .entry))) count)) × (r ≡ at + length (lineOf (now (lent .entry)) (laid (now (kinds .entry)) (now (numbers .entry)) (now (from .entry)) (now (to .entry)) (now (own .entry))) count)) ⌝ }
 {
     let mut end = at;
@@ -245,15 +230,15 @@ pub fn put(
     at: usize,
     count: usize,
     lent: &[u8],
-    kinds: &[u8; 10],
-    numbers: &[u16; 10],
-    from: &[usize; 10],
-    to: &[usize; 10],
+    kinds: &[u8; PARTS],
+    numbers: &[u16; PARTS],
+    from: &[usize; PARTS],
+    to: &[usize; PARTS],
     own: &[u8],
 ) -> usize
     ensures { λ r. ⌜ record { end = r; buffer = now (out .exit) } ≡ putParts (now (out .entry)) at count (now (lent .entry)) (laid (now (kinds .entry)) (now (numbers .entry)) (now (from .entry)) (now (to .entry)) (now (own .entry))) ⌝ }
 {
-    if 10 < count {
+    if PARTS < count {
         return at;
     }
     if !has_room(out.len(), at, count, lent, kinds, numbers, from, to, own) {

@@ -3,3 +3,4 @@ pub mod Frame
 pub mod Pairs
 pub mod Fields
 pub mod Laws
+pub mod Walk

@@ -1,10 +1,10 @@
 -- Document 01, "The file": "Fields part at commas only; a last empty field keeps its comma."
 -- Assumes nothing.
-use Prim.Native.Nat.{ℕ, _+_}
+use Prim.Native.Nat.{ℕ, _+_, _-_}
 use mathlib.Core.Bool.{Bool, true, cond, not, _&&_, _||_}
 use mathlib.Core.List.{List, [], _∷_, _++_}
-use lib.Dec.{leb, eqb}
-use lib.ListN.{length, drop}
+use lib.Dec.{leb, ltb, eqb}
+use lib.ListN.{length, getD, drop}
 
 -- A byte put before the first field.
 unfoldable pub push : ℕ → List (List ℕ) → List (List ℕ)
@@ -49,3 +49,15 @@ field (b ∷ s) = cond (ends b) [] (b ∷ field s)
 -- The offset of the first comma or CR from an offset on; the length, where there is none.
 unfoldable pub fieldEnd : List ℕ → ℕ → ℕ
 fieldEnd s at = cond (leb at (length s)) (at + length (field (drop at s))) (length s)
+
+-- "Fields part at commas only": the parts of the line at an offset of the file, up to its CR; none outside the file.
+unfoldable pub fieldsAt : List ℕ → ℕ → List (List ℕ)
+fieldsAt s at = cond (leb at (length s)) (split (line (drop at s))) []
+
+-- A comma stands after every field of a line but the last: the last field of a line ends at an offset.
+unfoldable pub lineEnds : List ℕ → ℕ → Bool
+lineEnds s at = cond (ltb at (length s)) (not (eqb (getD s at 0) 0x2c)) true
+
+-- The kth field, counted from 1; empty where there are fewer.
+abbrev pub nth : ℕ → List (List ℕ) → List ℕ
+nth k fs = getD fs (k - 1) []

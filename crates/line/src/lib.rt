@@ -1,13 +1,11 @@
-// Lines and fields: the frame of a file, and where a field ends.
+// Lines and fields: the frame of a file, where a field ends, and the fields of a line.
 use cells::Fault;
 ghost use mathlib.Core.Path.{_≡_};
 ghost use mathlib.Core.Bool.{true};
-ghost use Prim.Native.Nat.{_+_};
-ghost use lib.ListN.{length};
 ghost use Rattle.cells.specs.Test.{fault};
 ghost use Rattle.line.specs.Frame.{plain as plainOf, inLine, next as nextOf, frameFault};
 ghost use Rattle.line.specs.Code.Pairs.{mayFollow};
-ghost use Rattle.line.specs.Fields.{ends as endsOf, fieldEnd};
+ghost use Rattle.line.specs.Fields.{ends as endsOf, fieldEnd, fieldsAt, lineEnds, nth};
 
 // What has been read of a file: a line or nothing, a line and its CR, lines with their CR LF, all, or what no file begins with.
 const LINE: u8 = 0;
@@ -155,4 +153,35 @@ pub fn field_end(s: &[u8], at: usize) -> usize
         i += 1;
     }
     i
+}
+
+// Does the last field of a line end at a place: at a CR, or at the end of the file? A comma stands after any other.
+pub fn line_ends(s: &[u8], at: usize) -> bool
+    ensures { λ r. ⌜ r ≡ lineEnds (now (s .entry)) at ⌝ }
+{
+    if at < s.len() {
+        return s[at] != b',';
+    }
+    true
+}
+
+// The nth field, counted from 1, of those at a place; nothing where there are fewer.
+pub fn nth_field(s: &[u8], at: usize, n: usize) -> &[u8]
+    ensures { λ r. ⌜ now r ≡ nth n (fieldsAt (now (s .entry)) at) ⌝ }
+{
+    if s.len() < at {
+        return &s[0..0];
+    }
+    let mut from = at;
+    let mut k: usize = 1;
+    while k < n {
+        let end = field_end(s, from);
+        if line_ends(s, end) {
+            return &s[0..0];
+        }
+        from = end + 1;
+        k += 1;
+    }
+    let to = field_end(s, from);
+    &s[from..to]
 }

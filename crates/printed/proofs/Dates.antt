@@ -14,7 +14,7 @@ use Rattle.date.specs.Print.{printDate, text}
 use Rattle.date.specs.declared.Date.{Date}
 use Rattle.date.specs.declared.Text.{Text}
 use Rattle.date.proofs.Style.{print-none, print-eight, print-seven}
-use Rattle.laid.specs.Laid.{noField}
+use Rattle.text.specs.Lent.{noField}
 use Rattle.printed.specs.Printed.{dateField}
 use Rattle.printed.proofs.Laws.{date-held, date-none}
 

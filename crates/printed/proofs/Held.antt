@@ -11,7 +11,7 @@ use lib.ListN.{length}
 use Rattle.cells.proofs.Split.{split}
 use Rattle.cells.specs.Test.{Answer, took, refused}
 use Rattle.cells.specs.Writing.{Writes}
-use Rattle.laid.specs.Laid.{noField}
+use Rattle.text.specs.Lent.{noField}
 
 -- a reading that takes so many characters
 pub long : {A : Type 0} (n : ℕ) (s : List ℕ) (a : Answer A) (x : A) → cond (eqb (length s) n) a (refused 1 0) ≡ took x → length s ≡ n

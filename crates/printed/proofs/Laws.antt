@@ -26,7 +26,7 @@ use Rattle.supplement.specs.declared.Supplement.{Supplement}
 use Rattle.supplement_writer.specs.Print as supplements
 use Rattle.supplement_writer.proofs.Laws as supplements-laws
 use Rattle.supplement_writer.proofs.Writing as supplements-writing
-use Rattle.laid.specs.Laid.{noField}
+use Rattle.text.specs.Lent.{noField}
 use Rattle.printed.specs.Printed.{dateField, readsAs, usageField, supplementField}
 use Rattle.printed.proofs.Held.{long, held, none, reads}
 

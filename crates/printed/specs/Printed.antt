@@ -5,7 +5,7 @@ use mathlib.Core.Bool.{Bool, false, cond}
 use mathlib.Core.List.{List, _++_}
 use lib.ListN.{length, replicate}
 use Rattle.cells.specs.Test.{Answer, took, refused}
-use Rattle.laid.specs.Laid.{noField}
+use Rattle.text.specs.Lent.{noField}
 use Rattle.date.specs.Date.{isDate}
 use Rattle.date.specs.Print.{printDate}
 use Rattle.date.specs.declared.Date.{Date}

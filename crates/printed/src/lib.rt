@@ -7,7 +7,7 @@ ghost use mathlib.Core.List.{_∷_};
 ghost use Prim.Native.Nat.{_+_, _<_, _≤_};
 ghost use lib.ListN.{length};
 ghost use Rattle.number.specs.Print.{printNumber, decimals, printAmount};
-ghost use Rattle.laid.specs.Laid.{noField};
+ghost use Rattle.text.specs.Lent.{noField};
 ghost use Rattle.printed.specs.Printed.{dateField, usageField, supplementField, piece};
 ghost use Rattle.printed.specs.Code.Put.{more};
 

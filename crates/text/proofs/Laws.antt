@@ -1,14 +1,16 @@
--- What holds of every text, over the rules alone; and texts worked by hand.
+-- What holds of every text, and of a text by its place, over the rules alone; and texts worked by hand.
 -- Assumes nothing.
-use Prim.Native.Nat.{ℕ, zero, suc, _<_, _≤_}
-use mathlib.Core.Path.{_≡_, refl}
+use Prim.Native.Nat.{ℕ, zero, suc, _+_, _-_, _<_, _≤_}
+use mathlib.Core.Path.{_≡_, refl, _∙_, sym, ap}
 use mathlib.Core.Bool.{Bool, true, false, not, _||_, and-false}
 use mathlib.Core.List.{List, [], _∷_, map}
 use native.Mathlib.Omega.{arith}
-use borrow.Author.Tests.{leb-true, lt-leb, eqb-false, not-true}
-use lib.Dec.{eqb}
-use lib.ListN.{length, getD}
+use borrow.Author.Tests.{leb-true, le-leb, lt-leb, eqb-false, not-true}
+use lib.Dec.{leb, eqb}
+use lib.ListN.{length, getD, take, drop}
+use lib.Seq.{slice, take-add, drop-at, length-take-le}
 use Rattle.text.specs.Text.{between, single, lead, second, allWhole, characters, starts, ends, text}
+use Rattle.text.specs.Lent.{textOr}
 use Rattle.cells.proofs.Split.{split}
 use Rattle.cells.proofs.Alike.{and-parts}
 
@@ -72,6 +74,31 @@ pub no-control : (s : List ℕ) → text s ≡ true → (i : ℕ) → i < length
 unfolding text
 no-control s h i l = let p = all-plain s (and-parts _ _ h .0) i l in (p .0, p .2)
 
+-- ---- a text by its place
+module _ (lent none : List ℕ) (from to : ℕ) where
+  -- A place in the lent bytes is the bytes between its ends,
+  pub at-inside : from ≤ to → to ≤ length lent → textOr lent none from to ≡ slice from to lent
+  unfolding textOr
+  at-inside h l = rw (le-leb from to h, le-leb to (length lent) l)
+
+  -- one that ends before it begins is `none`,
+  pub at-turned : to < from → textOr lent none from to ≡ none
+  unfolding textOr
+  at-turned h = rw (lt-leb from to h)
+
+  -- and so is one that ends outside them.
+  pub at-outside : length lent < to → textOr lent none from to ≡ none
+  unfolding textOr
+  at-outside h = split (leb from to) (λ e. rw (e, lt-leb to (length lent) h)) (λ e. rw e)
+
+-- The bytes between two places, as they are cut out.
+pub cut : (lent : List ℕ) (from to : ℕ) → from ≤ to → to ≤ length lent → take (to - from) (drop from lent) ≡ slice from to lent
+cut lent from to h l =
+    let e : to ≡ from + (to - from) = omega arith in
+    sym (ap (λ (n : ℕ). drop from (take n lent)) e ∙ ap (drop from) (take-add from (to - from) lent)
+    ∙ drop-at (take from lent) (take (to - from) (drop from lent)) from (length-take-le from lent (omega arith)))
+
+-- ---- worked by hand
 -- A list of bytes, and whether it is a text.
 pub record Row : Type 0 where
   pub bytes : List ℕ

@@ -1,10 +1,11 @@
-// Shift_JIS text: two scanners that call each other over a field's bytes.
+// Shift_JIS text: two scanners that call each other over a field's bytes; and a text by its place.
 ghost use mathlib.Core.Path.{_≡_};
 ghost use mathlib.Core.Bool.{false, _&&_};
 ghost use Prim.Native.Nat.{_≤_};
 ghost use lib.Dec.{eqb};
 ghost use lib.ListN.{length, drop};
 ghost use Rattle.text.specs.Text.{single as singleOf, lead as leadOf, second as secondOf, characters, led, starts, textUpto};
+ghost use Rattle.text.specs.Lent.{textOr};
 ghost use Rattle.text.specs.Code.Scan.{rest};
 
 // A byte that is a character by itself: no control byte, no comma, no half of a pair.
@@ -114,4 +115,17 @@ pub fn is_text(s: &[u8], most: usize) -> bool
         return false;
     }
     at_character(s, 0, false)
+}
+
+// The text at a place of the lent bytes; where they have no such place, `none`.
+pub fn at<'a>(lent: &'a [u8], none: &'a [u8], from: usize, to: usize) -> &'a [u8]
+    ensures { λ r. ⌜ now r ≡ textOr (now (lent .entry)) (now (none .entry)) from to ⌝ }
+{
+    if to < from {
+        return none;
+    }
+    if lent.len() < to {
+        return none;
+    }
+    &lent[from..to]
 }

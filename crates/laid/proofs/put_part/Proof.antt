@@ -45,8 +45,8 @@ returns-2 c =
     let b = sym (as-text (a .lent .now) (a .own .now) (a .kind) (a .number) (a .from) (a .to) (c .before .before .before .before .before .if1 .left) (c .before .before .before .before .if2 .taken)) in
     (k .0 ∙ ap (λ (s : List ℕ). sets (now (a .out)) (a .at) s) b, k .1 ∙ ap (λ (s : List ℕ). a .at + length s) b)
 
-copy-requires : tie.Need-copy-requires
-copy-requires c κs =
+put-text-requires-2 : tie.Need-put-text-requires-2
+put-text-requires-2 c κs =
     let s = c .before .before .before .before .before .before in
     let a = s .args in
     let e = ap length (as-own (a .lent .now) (a .own .now) (a .kind) (a .number) (a .from) (a .to) (c .before .before .if1 .left) (c .before .if2 .left)) in
@@ -58,7 +58,7 @@ same-length-3 c = search needs
 returns-3 : tie.Need-returns-3
 returns-3 c =
     let a = c .before .before .before .before .before .before .before .before .before .args in
-    let k = c .before .before .copy .ensures in
+    let k = c .before .before .put-text2 .ensures in
     let b = sym (as-own (a .lent .now) (a .own .now) (a .kind) (a .number) (a .from) (a .to) (c .before .before .before .before .before .if1 .left) (c .before .before .before .before .if2 .left)) in
     (k .0 ∙ ap (λ (s : List ℕ). sets (now (a .out)) (a .at) s) b, k .1 ∙ ap (λ (s : List ℕ). a .at + length s) b)
 
@@ -72,6 +72,6 @@ put-part-spec =
     put-text-requires
     same-length-2
     returns-2
-    copy-requires
+    put-text-requires-2
     same-length-3
     returns-3)

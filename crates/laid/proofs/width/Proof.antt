@@ -19,9 +19,12 @@ returns-2 : tie.Need-returns-2
 unfolding partBytes textBytes
 returns-2 c = rw (ne-eqb _ _ (c .before .before .if1 .left), eq-eqb _ _ (c .before .if2 .taken)) (c .text-width .ensures)
 
+text-width-requires-2 : tie.Need-text-width-requires-2
+text-width-requires-2 c κs = search needs
+
 returns-3 : tie.Need-returns-3
 unfolding partBytes textBytes
-returns-3 c = rw (ne-eqb _ _ (c .before .if1 .left), ne-eqb _ _ (c .if2 .left))
+returns-3 c = rw (ne-eqb _ _ (c .before .before .if1 .left), ne-eqb _ _ (c .before .if2 .left)) (c .text-width2 .ensures)
 
 pub width-spec : {M : Type 1} → statement M
 width-spec =
@@ -31,4 +34,5 @@ width-spec =
     returns
     text-width-requires
     returns-2
+    text-width-requires-2
     returns-3)
