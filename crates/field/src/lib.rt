@@ -1,4 +1,5 @@
 // One field of a record: whether it may be empty, what form it must have, and what it is read as.
+use cells::Fault;
 use counter::DrugSerial;
 use counter::RpNumber;
 use counter::SupplementSerial;
@@ -7,17 +8,15 @@ use number::Number;
 use schedule::Schedule;
 ghost use Prim.Native.Nat.{_<_, _≤_};
 ghost use mathlib.Core.Path.{_≡_};
-ghost use mathlib.Core.Bool.{Bool};
 ghost use Rattle.cells.specs.Text.{among};
 ghost use Rattle.cells.specs.Test.{fault};
 ghost use Rattle.number.specs.Amount.{readAmount};
 ghost use Rattle.date.specs.Date.{readDate};
 ghost use Rattle.usage.specs.Usage.{readUsage};
 ghost use Rattle.supplement.specs.Supplement.{readSupplement};
-ghost use Rattle.supplement.specs.declared.Supplement.{Supplement};
 ghost use Rattle.schedule.specs.Kept.{mayJoin};
-ghost use Rattle.field.specs.Field.{isTaken, isDrugCode, isSite, ordered as orderedOf, refusedWith, readField};
-ghost use Rattle.field.specs.Code.Read.{codedOf, usageFault, supplementFault, codeWrong, formedIf, amountField, readFilled};
+ghost use Rattle.field.specs.Field.{Context, context, isDrugCode, isSite, ordered as orderedOf, refusedWith, readField};
+ghost use Rattle.field.specs.Code.Read.{usageField, supplementField, codeField, formedIf, dateField, amountField, readFilled};
 
 // Whether a field may be empty.
 pub const FREE: u8 = 0;
@@ -61,9 +60,8 @@ pub struct Rule {
     pub hi: u16,
 }
 
-// What the records before leave: the last record's number, the month of record 51, the RP's number, its last serials and its supplements.
-pub struct Sofar {
-    pub last: u16,
+// What the records before leave for a field: the month of record 51, the RP's number, its last serials and its supplements.
+pub struct Before {
     pub month: u8,
     pub rp: RpNumber,
     pub drug: DrugSerial,
@@ -71,20 +69,13 @@ pub struct Sofar {
     pub schedule: Schedule,
 }
 
-// The number 0 and what is read, or a refusal's number, for 29 with the code's own number and place.
+// What is wrong, the number 0 and what is read where nothing is; the fault's place is where in the field, of a code its character. `code` is for 29
+// the code's own number.
 pub struct Field {
-    pub number: u16,
+    pub fault: Fault,
     pub code: u16,
-    pub place: usize,
     pub n: u16,
     pub amount: u64,
-}
-
-// What is wrong with a code: 0, 29 with the code's own number and place, or 31.
-struct Verdict {
-    number: u16,
-    code: u16,
-    place: usize,
 }
 
 // A digit or a capital.
@@ -124,139 +115,124 @@ fn is_site(f: &[u8]) -> bool
     capital(f[0]) & capital(f[1]) & capital(f[2])
 }
 
-fn is_date(f: &[u8]) -> bool
-    ensures { λ t. ⌜ t ≡ isTaken (readDate (now (f .entry))) ⌝ }
-{
-    match date::read(f) {
-        Made::Day(_) => true,
-        Made::None => false,
-    }
-}
-
 // An RP number or a serial is as ordered.
-pub fn ordered(c: Sofar, r: Rule, n: u16) -> bool
-    ensures { λ t. ⌜ t ≡ orderedOf c r n ⌝ }
+pub fn ordered(b: Before, r: Rule, n: u16) -> bool
+    ensures { λ t. ⌜ t ≡ orderedOf b r n ⌝ }
 {
     if r.form == NEW_RP {
-        return c.rp.rises(RpNumber(n));
+        return b.rp.rises(RpNumber(n));
     }
     if r.form == OWN_RP {
-        return c.rp.carries(RpNumber(n));
+        return b.rp.carries(RpNumber(n));
     }
     if r.form == DRUG_SERIAL {
-        return c.drug.next_drug(DrugSerial(n));
+        return b.drug.next_drug(DrugSerial(n));
     }
     if r.form == SUPPLEMENT_SERIAL {
-        return c.supplement.next_supplement(SupplementSerial(n));
+        return b.supplement.next_supplement(SupplementSerial(n));
     }
     true
 }
 
-fn coded(number: u16, code: u16, place: usize) -> Verdict
-    ensures { λ k. ⌜ k ≡ codedOf number code place ⌝ }
-{
-    Verdict {
-        number: number,
-        code: code,
-        place: place,
-    }
-}
-
-fn usage_fault(f: &[u8]) -> Verdict
-    ensures { λ k. ⌜ k ≡ usageFault (readUsage (now (f .entry))) ⌝ }
-{
-    match usage::read(f) {
-        usage::Reading::Taken(_) => coded(0, 0, 0),
-        usage::Reading::Refused(x) => coded(29, x.number, x.place),
-    }
-}
-
-// A supplement that is taken must stand well after those before it in its RP.
-fn supplement_fault(c: Sofar, f: &[u8]) -> Verdict
-    ensures { λ k. ⌜ k ≡ supplementFault (mayJoin (c .month) (c .schedule)) (readSupplement (now (f .entry))) ⌝ }
-{
-    let month = c.month;
-    let before = c.schedule;
-    match supplement::read(f) {
-        supplement::Reading::Taken(x) => {
-            if schedule::joins(month, before, x) {
-                return coded(0, 0, 0);
-            }
-            coded(31, 0, 0)
-        }
-        supplement::Reading::Refused(x) => coded(29, x.number, x.place),
-    }
-}
-
-// A usage code, or else a supplementary code.
-fn code_fault(c: Sofar, r: Rule, f: &[u8]) -> Verdict
-    ensures { λ k. ⌜ k ≡ codeWrong (mayJoin (c .month) (c .schedule)) r (now (f .entry)) ⌝ }
-{
-    if r.form == USAGE_CODE {
-        return usage_fault(f);
-    }
-    supplement_fault(c, f)
-}
-
-// A refusal with no code's own number.
-fn refused(number: u16) -> Field
-    ensures { λ t. ⌜ t ≡ refusedWith number (fault 0 0) ⌝ }
+// A field that is refused, or has nothing wrong and no number.
+fn refused(number: u16, place: usize, code: u16) -> Field
+    ensures { λ t. ⌜ t ≡ refusedWith (fault number place) code ⌝ }
 {
     Field {
-        number: number,
-        code: 0,
-        place: 0,
+        fault: Fault {
+            number: number,
+            place: place,
+        },
+        code: code,
         n: 0,
         amount: 0,
     }
 }
 
+fn read_usage(f: &[u8]) -> Field
+    ensures { λ t. ⌜ t ≡ usageField (readUsage (now (f .entry))) ⌝ }
+{
+    match usage::read(f) {
+        usage::Reading::Taken(_) => refused(0, 0, 0),
+        usage::Reading::Refused(x) => refused(29, x.place, x.number),
+    }
+}
+
+// A supplement that is taken must stand well after those before it in its RP.
+fn read_supplement(b: Before, f: &[u8]) -> Field
+    ensures { λ t. ⌜ t ≡ supplementField (mayJoin (b .month) (b .schedule)) (readSupplement (now (f .entry))) ⌝ }
+{
+    let month = b.month;
+    let before = b.schedule;
+    match supplement::read(f) {
+        supplement::Reading::Taken(x) => {
+            if schedule::joins(month, before, x) {
+                return refused(0, 0, 0);
+            }
+            refused(31, 0, 0)
+        }
+        supplement::Reading::Refused(x) => refused(29, x.place, x.number),
+    }
+}
+
+// A usage code, or else a supplementary code.
+fn read_code(b: Before, r: Rule, f: &[u8]) -> Field
+    ensures { λ t. ⌜ t ≡ codeField (mayJoin (b .month) (b .schedule)) r (now (f .entry)) ⌝ }
+{
+    if r.form == USAGE_CODE {
+        return read_usage(f);
+    }
+    read_supplement(b, f)
+}
+
 // A number: in its range, a code kind not 5, and an RP number or a serial as ordered.
-fn read_number(c: Sofar, r: Rule, f: &[u8]) -> Field
+fn read_number(b: Before, r: Rule, f: &[u8]) -> Field
     requires { ⌜ 7 ≤ r .form ⌝ }
-    ensures { λ t. ⌜ t ≡ readFilled (mayJoin (c .month) (c .schedule)) c r (now (f .entry)) ⌝ }
+    ensures { λ t. ⌜ t ≡ readFilled (context b) r (now (f .entry)) ⌝ }
 {
     match number::read(f, r.lo, r.hi) {
         Number::Is(m) => {
             let n = (m % 65536) as u16;
             if (r.form == CODE_KIND) & (n == 5) {
-                return refused(27); // "code kind 1 2 3 4 6 7"
+                return refused(27, 0, 0); // "code kind 1 2 3 4 6 7"
             }
-            if !ordered(c, r, n) {
-                return refused(30);
+            if !ordered(b, r, n) {
+                return refused(30, 0, 0);
             }
             Field {
-                number: 0,
+                fault: Fault {
+                    number: 0,
+                    place: 0,
+                },
                 code: 0,
-                place: 0,
                 n: n,
                 amount: 0,
             }
         }
-        Number::Not => refused(27),
+        Number::Not(x) => refused(x.number, x.place, 0),
     }
 }
 
-// A field with no number, by whether it is of its form.
+// A field with no reader of its own, by whether it is of its form.
 fn formed(ok: bool) -> Field
     ensures { λ t. ⌜ t ≡ formedIf ok ⌝ }
 {
     if ok {
-        return refused(0);
+        return refused(0, 0, 0);
     }
-    refused(27)
+    refused(27, 0, 0)
 }
 
 // A text or a drug code is well formed and within its byte maximum.
 fn read_text(r: Rule, f: &[u8]) -> Field
     requires { ⌜ r .form ≤ 1 ⌝ }
-    ensures { λ t. ⌜ ((joins : Supplement → Bool) (c : Sofar) → t ≡ readFilled joins c r (now (f .entry))) ⌝ }
+    ensures { λ t. ⌜ ((c : Context) → t ≡ readFilled c r (now (f .entry))) ⌝ }
 {
     if !text::is_text(f, r.hi as usize) {
-        return refused(26);
+        return refused(26, 0, 0);
     }
     if r.form == TEXT {
-        return refused(0);
+        return refused(0, 0, 0);
     }
     formed(is_drug_code(f))
 }
@@ -267,65 +243,69 @@ fn read_amount(f: &[u8]) -> Field
 {
     match number::read_amount(f) {
         Number::Is(n) => Field {
-            number: 0,
+            fault: Fault {
+                number: 0,
+                place: 0,
+            },
             code: 0,
-            place: 0,
             n: 0,
             amount: n,
         },
-        Number::Not => refused(27),
+        Number::Not(x) => refused(x.number, x.place, 0),
+    }
+}
+
+fn read_date(f: &[u8]) -> Field
+    ensures { λ t. ⌜ t ≡ dateField (readDate (now (f .entry))) ⌝ }
+{
+    match date::read(f) {
+        Made::Day(_) => refused(0, 0, 0),
+        Made::None(x) => refused(x.number, x.place, 0),
     }
 }
 
 // A date, a site, an amount or a code.
-fn read_other(c: Sofar, r: Rule, f: &[u8]) -> Field
+fn read_other(b: Before, r: Rule, f: &[u8]) -> Field
     requires { ⌜ (1 < r .form) × (r .form < 7) ⌝ }
-    ensures { λ t. ⌜ t ≡ readFilled (mayJoin (c .month) (c .schedule)) c r (now (f .entry)) ⌝ }
+    ensures { λ t. ⌜ t ≡ readFilled (context b) r (now (f .entry)) ⌝ }
 {
     if r.form == AMOUNT {
         return read_amount(f);
     }
     if r.form == DATE {
-        return formed(is_date(f));
+        return read_date(f);
     }
     if r.form == SITE {
         return formed(is_site(f));
     }
-    let k = code_fault(c, r, f);
-    Field {
-        number: k.number,
-        code: k.code,
-        place: k.place,
-        n: 0,
-        amount: 0,
-    }
+    read_code(b, r, f)
 }
 
 // A field that is filled and may be.
-fn read_filled(c: Sofar, r: Rule, f: &[u8]) -> Field
-    ensures { λ t. ⌜ t ≡ readFilled (mayJoin (c .month) (c .schedule)) c r (now (f .entry)) ⌝ }
+fn read_filled(b: Before, r: Rule, f: &[u8]) -> Field
+    ensures { λ t. ⌜ t ≡ readFilled (context b) r (now (f .entry)) ⌝ }
 {
     if NUMBER <= r.form {
-        return read_number(c, r, f);
+        return read_number(b, r, f);
     }
     if r.form <= DRUG_CODE {
         return read_text(r, f);
     }
-    read_other(c, r, f)
+    read_other(b, r, f)
 }
 
 // Reads a field by its rule, after what the records before leave.
-pub fn read(c: Sofar, r: Rule, f: &[u8]) -> Field
-    ensures { λ t. ⌜ t ≡ readField (mayJoin (c .month) (c .schedule)) c r (now (f .entry)) ⌝ }
+pub fn read(b: Before, r: Rule, f: &[u8]) -> Field
+    ensures { λ t. ⌜ t ≡ readField (context b) r (now (f .entry)) ⌝ }
 {
     if f.len() == 0 {
         if r.need == REQUIRED {
-            return refused(28);
+            return refused(28, 0, 0);
         }
-        return refused(0); // nothing is wrong with it, and it has no number
+        return refused(0, 0, 0); // nothing is wrong with it, and it has no number
     }
     if r.need == FORBIDDEN {
-        return refused(28);
+        return refused(28, 0, 0);
     }
-    read_filled(c, r, f)
+    read_filled(b, r, f)
 }

@@ -13,7 +13,7 @@ returns : tie.Need-returns
 returns c =
     let e = c .before .before .before in
     let a = e .before .before .args in
-    c .refused .ensures ∙ sym (lacking _ (a .c) (a .r) (a .f .now) (e .if1 .taken) (c .before .if2 .taken))
+    c .refused .ensures ∙ sym (lacking _ (a .r) (a .f .now) (e .if1 .taken) (c .before .if2 .taken))
 
 refused-requires-2 : tie.Need-refused-requires-2
 refused-requires-2 c κs = search needs
@@ -22,7 +22,7 @@ returns-2 : tie.Need-returns-2
 returns-2 c =
     let e = c .before .before .before in
     let a = e .before .before .args in
-    c .refused2 .ensures ∙ sym (nothing _ (a .c) (a .r) (a .f .now) (e .if1 .taken) (c .before .if2 .left))
+    c .refused2 .ensures ∙ sym (nothing _ (a .r) (a .f .now) (e .if1 .taken) (c .before .if2 .left))
 
 refused-requires-3 : tie.Need-refused-requires-3
 refused-requires-3 c κs = search needs
@@ -31,7 +31,7 @@ returns-3 : tie.Need-returns-3
 returns-3 c =
     let e = c .before .before .before in
     let a = e .before .before .args in
-    c .refused3 .ensures ∙ sym (excess _ (a .c) (a .r) (a .f .now) (e .if1 .left) (c .before .if3 .taken))
+    c .refused3 .ensures ∙ sym (excess _ (a .r) (a .f .now) (e .if1 .left) (c .before .if3 .taken))
 
 read-filled-requires : tie.Need-read-filled-requires
 read-filled-requires c κs = search needs
@@ -40,7 +40,7 @@ returns-4 : tie.Need-returns-4
 returns-4 c =
     let e = c .before .before .before in
     let a = e .before .before .args in
-    c .read-filled .ensures ∙ sym (as-filled _ (a .c) (a .r) (a .f .now) (e .if1 .left) (c .before .if3 .left))
+    c .read-filled .ensures ∙ sym (as-filled _ (a .r) (a .f .now) (e .if1 .left) (c .before .if3 .left))
 
 pub read-spec : {M : Type 1} → statement M
 read-spec =

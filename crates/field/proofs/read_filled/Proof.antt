@@ -14,7 +14,7 @@ read-text-requires : tie.Need-read-text-requires
 read-text-requires c κs = search needs
 
 returns-2 : tie.Need-returns-2
-returns-2 c = c .read-text .ensures _ _
+returns-2 c = c .read-text .ensures _
 
 read-other-requires : tie.Need-read-other-requires
 read-other-requires c κs = search needs

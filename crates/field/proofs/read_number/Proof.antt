@@ -26,7 +26,7 @@ returns c =
     let d = c .before .before .before .before in
     let s = d .before .before .before .before in
     let a = s .args in
-    c .refused .ensures ∙ sym (five _ (a .c) (a .r) (a .f .now) (s .pre) (omega (arith, s .good)) (d .m .given .0 .0) (sym (d .before .before .read .ensures) ∙ ap said (d .m .given .1)) (c .before .if1 .taken))
+    c .refused .ensures ∙ sym (five _ (a .r) (a .f .now) (s .pre) (omega (arith, s .good)) (d .m .given .0 .0) (sym (d .before .before .read .ensures) ∙ ap said (d .m .given .1)) (c .before .if1 .taken))
 
 ordered-requires : tie.Need-ordered-requires
 ordered-requires c κs = search needs
@@ -40,10 +40,10 @@ returns-2 c =
     let d = o .before .before .before .before in
     let s = d .before .before .before .before in
     let a = s .args in
-    c .refused2 .ensures ∙ sym (disordered _ (a .c) (a .r) (a .f .now) (s .pre) (omega (arith, s .good)) (d .m .given .0 .0) (sym (d .before .before .read .ensures) ∙ ap said (d .m .given .1)) (o .before .if1 .left) (sym (o .ordered .ensures) ∙ not-true _ (c .before .if2 .taken)))
+    c .refused2 .ensures ∙ sym (disordered _ (a .r) (a .f .now) (s .pre) (omega (arith, s .good)) (d .m .given .0 .0) (sym (d .before .before .read .ensures) ∙ ap said (d .m .given .1)) (o .before .if1 .left) (sym (o .ordered .ensures) ∙ not-true _ (c .before .if2 .taken)))
 
-enum-told : tie.Need-enum-told
-enum-told c = search needs
+enum-known-x : tie.Need-enum-known-x
+enum-known-x c = search needs
 
 refused-requires-3 : tie.Need-refused-requires-3
 refused-requires-3 c κs = search needs
@@ -54,14 +54,14 @@ returns-3 c =
     let d = o .before .before .before .before in
     let s = d .before .before .before .before in
     let a = s .args in
-    sym (as-number _ (a .c) (a .r) (a .f .now) (s .pre) (omega (arith, s .good)) (d .m .given .0 .0) (sym (d .before .before .read .ensures) ∙ ap said (d .m .given .1)) (o .before .if1 .left) (sym (o .ordered .ensures) ∙ not-false _ (c .if2 .left)))
+    sym (as-number _ (a .r) (a .f .now) (s .pre) (omega (arith, s .good)) (d .m .given .0 .0) (sym (d .before .before .read .ensures) ∙ ap said (d .m .given .1)) (o .before .if1 .left) (sym (o .ordered .ensures) ∙ not-false _ (c .if2 .left)))
 
 returns-4 : tie.Need-returns-4
 returns-4 c =
-    let d = c .before in
+    let d = c .before .before in
     let s = d .before .before .before .before in
     let a = s .args in
-    c .refused3 .ensures ∙ sym (no-number _ (a .c) (a .r) (a .f .now) (s .pre) (sym (d .before .before .read .ensures) ∙ ap said (d .enum-told .given .1)))
+    c .refused3 .ensures ∙ sym (no-number _ (a .r) (a .f .now) (s .pre) _ _ (sym (d .before .before .read .ensures) ∙ ap said (d .x .given .1)))
 
 pub read-number-spec : {M : Type 1} → statement M
 read-number-spec =
@@ -75,7 +75,7 @@ read-number-spec =
     ordered-requires
     refused-requires-2
     returns-2
-    enum-told
+    enum-known-x
     refused-requires-3
     returns-3
     returns-4)

@@ -23,7 +23,7 @@ returns c =
     let i = c .before .before in
     let s = i .before .before .before in
     let a = s .args in
-    λ joins k. c .refused .ensures ∙ sym (unfit joins k (a .r) (a .f .now) (s .pre) (sym (i .is-text .ensures) ∙ not-true _ (c .before .if1 .taken)))
+    λ k. c .refused .ensures ∙ sym (unfit k (a .r) (a .f .now) (s .pre) (sym (i .is-text .ensures) ∙ not-true _ (c .before .if1 .taken)))
 
 refused-requires-2 : tie.Need-refused-requires-2
 refused-requires-2 c κs = search needs
@@ -33,7 +33,7 @@ returns-2 c =
     let e = c .before .before .before in
     let i = e .before in
     let a = i .before .before .before .args in
-    λ joins k. c .refused2 .ensures ∙ sym (as-text joins k (a .r) (a .f .now) (c .before .if2 .taken) (sym (i .is-text .ensures) ∙ not-false _ (e .if1 .left)))
+    λ k. c .refused2 .ensures ∙ sym (as-text k (a .r) (a .f .now) (c .before .if2 .taken) (sym (i .is-text .ensures) ∙ not-false _ (e .if1 .left)))
 
 is-drug-code-requires : tie.Need-is-drug-code-requires
 is-drug-code-requires c κs = search needs
@@ -47,7 +47,7 @@ returns-3 c =
     let i = e .before in
     let s = i .before .before .before in
     let a = s .args in
-    λ joins k. c .formed .ensures ∙ ap formedIf (c .before .is-drug-code .ensures) ∙ sym (as-drug-code joins k (a .r) (a .f .now) (omega arith) (sym (i .is-text .ensures) ∙ not-false _ (e .if1 .left)))
+    λ k. c .formed .ensures ∙ ap formedIf (c .before .is-drug-code .ensures) ∙ sym (as-drug-code k (a .r) (a .f .now) (omega arith) (sym (i .is-text .ensures) ∙ not-false _ (e .if1 .left)))
 
 pub read-text-spec : {M : Type 1} → statement M
 read-text-spec =
