@@ -12,11 +12,9 @@ use lib.Dec.{eqb, leb}
 use lib.ListN.{length, getD, length-append, length-map, List·getD-append}
 use Rattle.cells.proofs.Split.{split}
 use Rattle.line.specs.Fields.{join}
-use Rattle.supplement.specs.declared.Supplement.{Supplement}
-use Rattle.field.specs.Field.{free, text, readField}
+use Rattle.field.specs.Field.{Context, readField}
 use Rattle.field.specs.declared.Rule.{Rule}
-use Rattle.field.specs.declared.Sofar.{Sofar}
-use Rattle.row.specs.Table.{typed, rules, rulesFrom, rulesOf, counted, noRule, tableOf}
+use Rattle.row.specs.Table.{typed, keptRule, rules, rulesFrom, rulesOf, counted, wide, noRule, tableOf}
 use Rattle.row.specs.Row.{miscounted, fieldByField, fine, readRow}
 use Rattle.row.specs.Code.Walk.{widthOf, rowFrom, keptFrom}
 
@@ -37,18 +35,18 @@ end-line : (at : ℕ) (fs : List (List ℕ)) → 1 ≤ length fs → end at fs �
 end-line at [] h = absurd (omega arith)
 end-line at (f ∷ fs) h = end-join at f fs
 
-module _ (joins : Supplement → Bool) (c : Sofar) where
+module _ (c : Context) where
   -- the fields of a typed record, after i others, whose rules stand in `all` from there on
   typed-from : (rs : List Rule) (fs : List (List ℕ)) (i at : ℕ) (all : List Rule) → length fs ≡ length rs →
       ((j : ℕ) → j < length rs → getD all (i + j) noRule ≡ getD rs j noRule) →
-      rowFrom joins c i at all fs ≡ fieldByField joins c (i + 1) rs fs (fine (end at fs))
+      rowFrom c i at all fs ≡ fieldByField c (i + 1) rs fs (fine (end at fs))
   unfolding rowFrom fieldByField end
   typed-from [] [] i at all h a = refl
   typed-from [] (f ∷ fs) i at all h a = absurd (omega arith)
   typed-from (r ∷ rs) [] i at all h a = absurd (omega arith)
   typed-from (r ∷ rs) (f ∷ fs) i at all h a =
       let g : getD all i noRule ≡ r = rw add-zero at (a 0 (omega arith)) in
-      split (eqb (readField joins c r f .number) 0)
+      split (eqb (readField c r f .fault .number) 0)
       (λ e.
       simp (g, e)
       (typed-from rs fs (i + 1) (at + length f + 1) all (omega arith)
@@ -57,17 +55,17 @@ module _ (joins : Supplement → Bool) (c : Sofar) where
 
   -- the fields of a kept record
   kept-from : (fs : List (List ℕ)) (i at : ℕ) →
-      keptFrom joins c i at fs ≡ fieldByField joins c i (map (λ f. text free 200) fs) fs (fine (end at fs))
+      keptFrom c i at fs ≡ fieldByField c i (map (λ f. keptRule) fs) fs (fine (end at fs))
   unfolding keptFrom fieldByField end
   kept-from [] i at = refl
   kept-from (f ∷ fs) i at =
-      split (eqb (readField joins c (text free 200) f .number) 0)
+      split (eqb (readField c (keptRule) f .fault .number) 0)
       (λ e. simp e (kept-from fs (i + 1) (at + length f + 1)))
       (λ e. simp e)
 
   module _ (n at : ℕ) (fs : List (List ℕ)) where
     row-counted : 1 ≤ length fs → length fs ≡ length (rules n fs) →
-        readRow joins c n at fs ≡ fieldByField joins c 1 (rules n fs) fs (fine (at + length (join fs) + 1))
+        readRow c n at fs ≡ fieldByField c 1 (rules n fs) fs (fine (at + length (join fs) + 1))
     unfolding readRow counted
     row-counted h k = rw (le-leb 1 (length fs) h, eq-eqb (length fs) (length (rules n fs)) k)
 
@@ -82,8 +80,8 @@ module _ (joins : Supplement → Bool) (c : Sofar) where
         split (eqb n 51) (λ e. simp e)
         (λ a. split (eqb n 101) (λ e. simp (a, e)) (λ b. split (eqb n 111) (λ e. simp (a, b, e)) (λ d. split (eqb n 181) (λ e. simp (a, b, d, e)) (λ e. simp (a, b, d, e)))))
 
-    -- a table has one to nine fields
-    pub table-size : (1 ≤ length (rulesOf n fs)) × (length (rulesOf n fs) ≤ 9)
+    -- a table has one to twelve fields
+    pub table-size : (1 ≤ length (rulesOf n fs)) × (length (rulesOf n fs) ≤ wide)
     unfolding rulesFrom
     table-size =
         split (eqb n 51) (λ e. simp e (omega arith, omega arith))
@@ -95,31 +93,31 @@ module _ (joins : Supplement → Bool) (c : Sofar) where
 
     -- A typed record with as many fields as its table,
     pub typed-row : typed n ≡ true → length fs ≡ length (rulesOf n fs) →
-        rowFrom joins c 0 at (tableOf (rulesOf n fs) .each) fs ≡ readRow joins c n at fs
+        rowFrom c 0 at (tableOf (rulesOf n fs) .each) fs ≡ readRow c n at fs
     typed-row h k =
         let l : 1 ≤ length fs = omega (arith, table-size) in
         let y : rules n fs ≡ rulesOf n fs = typed-rules h in
         typed-from (rulesOf n fs) fs 0 at (tableOf (rulesOf n fs) .each) k (λ j b. rw zero-add (List·getD-append (rulesOf n fs) _ noRule j b))
-        ∙ ap (λ (x : ℕ). fieldByField joins c 1 (rulesOf n fs) fs (fine x)) (end-line at fs l)
+        ∙ ap (λ (x : ℕ). fieldByField c 1 (rulesOf n fs) fs (fine x)) (end-line at fs l)
         ∙ sym (row-counted l (k ∙ ap length (sym y)) ∙ rw y)
 
     -- one that is kept,
-    pub kept-row : typed n ≡ false → 1 ≤ length fs → keptFrom joins c 1 at fs ≡ readRow joins c n at fs
+    pub kept-row : typed n ≡ false → 1 ≤ length fs → keptFrom c 1 at fs ≡ readRow c n at fs
     unfolding rules
     kept-row h l =
-        let y : rules n fs ≡ map (λ f. text free 200) fs = rw h in
+        let y : rules n fs ≡ map (λ f. keptRule) fs = rw h in
         kept-from fs 1 at
-        ∙ ap (λ (x : ℕ). fieldByField joins c 1 (map (λ f. text free 200) fs) fs (fine x)) (end-line at fs l)
-        ∙ sym (row-counted l (sym (ap length y ∙ length-map fs (λ f. text free 200))) ∙ rw y)
+        ∙ ap (λ (x : ℕ). fieldByField c 1 (map (λ f. keptRule) fs) fs (fine x)) (end-line at fs l)
+        ∙ sym (row-counted l (sym (ap length y ∙ length-map fs (λ f. keptRule))) ∙ rw y)
 
     -- one with another number of fields,
-    pub miscounted-row : typed n ≡ true → (length fs ≡ length (rulesOf n fs) → ⊥) → readRow joins c n at fs ≡ miscounted
+    pub miscounted-row : typed n ≡ true → (length fs ≡ length (rulesOf n fs) → ⊥) → readRow c n at fs ≡ miscounted
     unfolding readRow counted
     miscounted-row h k =
         let y : rules n fs ≡ rulesOf n fs = typed-rules h in
         split (leb 1 (length fs)) (λ e. simp (e, y, ne-eqb (length fs) (length (rulesOf n fs)) k)) (λ e. simp e)
 
   -- and one with none.
-  pub no-fields : (n at : ℕ) → readRow joins c n at [] ≡ miscounted
+  pub no-fields : (n at : ℕ) → readRow c n at [] ≡ miscounted
   unfolding readRow counted
   no-fields n at = refl

@@ -1,4 +1,3 @@
-pub mod Walk
 pub mod Parted
 pub mod Nine
 pub mod Noted

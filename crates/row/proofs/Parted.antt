@@ -12,11 +12,11 @@ use lib.ListN.{length, getD, set, length-set}
 use lib.Seq.{slice, getD-set-same, getD-set-other}
 use Rattle.cells.proofs.Split.{split}
 use Rattle.cells.proofs.Alike.{and-left, and-right}
-use Rattle.line.specs.Fields.{fieldEnd}
-use Rattle.row.specs.Table.{nth, kindField, codeField, rulesFrom}
-use Rattle.row.specs.Row.{fieldsAt, lineEnds, zeros}
+use Rattle.line.specs.Fields.{fieldEnd, nth, fieldsAt, lineEnds}
+use Rattle.row.specs.Table.{wide, kindField, codeField, rulesFrom}
+use Rattle.row.specs.Row.{zeros}
 use Rattle.row.specs.Code.Walk.{widthOf, cutCount, cutEnds, marks}
-use Rattle.row.proofs.Walk.{within, size, first, last, more, more-fit}
+use Rattle.line.proofs.Walk.{within, size, first, last, more, more-fit}
 
 -- ---- what the pass notes
 -- the ends before the kth stay,
@@ -24,35 +24,35 @@ cut-keeps : (fs : List (List ℕ)) (k at : ℕ) (es : List ℕ) (j : ℕ) → j 
 unfolding cutEnds
 cut-keeps [] k at es j h = refl
 cut-keeps (f ∷ fs) k at es j h =
-    split (ltb k 9)
+    split (ltb k wide)
     (λ e. rw e
     (cut-keeps fs (k + 1) (at + length f + 1) (set es k (at + length f)) j (omega arith)
     ∙ getD-set-other es k j (at + length f) 0 (λ q. omega (arith, q))))
     (λ e. rw e)
 
 -- the others are where the fields end,
-cut-marks : (fs : List (List ℕ)) (k at : ℕ) (es : List ℕ) → k + length fs ≤ 9 → length es ≡ 9 → marks (cutEnds k at fs es) k at fs ≡ true
+cut-marks : (fs : List (List ℕ)) (k at : ℕ) (es : List ℕ) → k + length fs ≤ wide → length es ≡ wide → marks (cutEnds k at fs es) k at fs ≡ true
 unfolding cutEnds marks
 cut-marks [] k at es h l = refl
 cut-marks (f ∷ fs) k at es h l =
-    let b : k < 9 = omega arith in
+    let b : k < wide = omega arith in
     let e : getD (cutEnds (k + 1) (at + length f + 1) fs (set es k (at + length f))) k 0 ≡ at + length f =
     cut-keeps fs (k + 1) (at + length f + 1) (set es k (at + length f)) k (omega arith)
     ∙ getD-set-same es k (at + length f) 0 (omega (arith, l)) in
-    rw (lt-ltb k 9 b, e, eq-eqb (at + length f) (at + length f) refl)
+    rw (lt-ltb k wide b, e, eq-eqb (at + length f) (at + length f) refl)
     (cut-marks fs (k + 1) (at + length f + 1) (set es k (at + length f)) (omega arith) (length-set es k (at + length f) ∙ l))
 
 -- and they are counted, or are more than nine.
-cut-count : (fs : List (List ℕ)) (k : ℕ) → k ≤ 9 → cutCount k fs ≡ cond (ltb 9 (k + length fs)) 10 (k + length fs)
+cut-count : (fs : List (List ℕ)) (k : ℕ) → k ≤ wide → cutCount k fs ≡ cond (ltb wide (k + length fs)) (wide + 1) (k + length fs)
 unfolding cutCount
-cut-count [] k h = rw (add-zero, le-ltb 9 k h)
+cut-count [] k h = rw (add-zero, le-ltb wide k h)
 cut-count (f ∷ fs) k h =
-    split (ltb k 9)
+    split (ltb k wide)
     (λ e.
-    let l : k < 9 = ltb-true k 9 e in
+    let l : k < wide = ltb-true k wide e in
     let z : k + 1 + length fs ≡ k + suc (length fs) = omega arith in
-    rw e (cut-count fs (k + 1) (omega arith) ∙ ap (λ (n : ℕ). cond (ltb 9 n) 10 n) z))
-    (λ e. let l : 9 ≤ k = ltb-false k 9 e in rw (e, lt-ltb 9 (k + suc (length fs)) (omega arith)))
+    rw e (cut-count fs (k + 1) (omega arith) ∙ ap (λ (n : ℕ). cond (ltb wide n) (wide + 1) n) z))
+    (λ e. let l : wide ≤ k = ltb-false k wide e in rw (e, lt-ltb wide (k + suc (length fs)) (omega arith)))
 
 -- ---- the pass, one field further
 -- What is left of the pass gives the count and the ends that the whole of it gives.
@@ -61,47 +61,47 @@ pub record Cut (k at : ℕ) (fs : List (List ℕ)) (es : List ℕ) (count : ℕ)
   pub ends-are : to ≡ cutEnds k at fs es
 
 module _ (s : List ℕ) (at : ℕ) (h : at ≤ length s) (k : ℕ) (es : List ℕ) (count : ℕ) (to : List ℕ) (w : Cut k at (fieldsAt s at) es count to) where
-  module _ (e : ℕ) (q : e ≡ fieldEnd s at) (b : k < 9) where
+  module _ (e : ℕ) (q : e ≡ fieldEnd s at) (b : k < wide) where
     pub cut-last : lineEnds s e ≡ true → (k + 1 ≡ count) × (set es k e ≡ to)
     unfolding cutCount cutEnds
     cut-last l = (
-      sym (w .count-is ∙ rw (last s at h e q l, lt-ltb k 9 b)),
-      sym (w .ends-are ∙ rw (last s at h e q l, lt-ltb k 9 b, size s at h e q)),
+      sym (w .count-is ∙ rw (last s at h e q l, lt-ltb k wide b)),
+      sym (w .ends-are ∙ rw (last s at h e q l, lt-ltb k wide b, size s at h e q)),
     )
 
     pub cut-more : lineEnds s e ≡ false → Cut (k + 1) (e + 1) (fieldsAt s (e + 1)) (set es k e) count to
     unfolding cutCount cutEnds
     cut-more l = record {
-      count-is = w .count-is ∙ rw (more s at h e q l, lt-ltb k 9 b);
-      ends-are = w .ends-are ∙ rw (more s at h e q l, lt-ltb k 9 b, size s at h e q);
+      count-is = w .count-is ∙ rw (more s at h e q l, lt-ltb k wide b);
+      ends-are = w .ends-are ∙ rw (more s at h e q l, lt-ltb k wide b, size s at h e q);
     }
 
   -- after nine there is one more
-  pub cut-full : 9 ≤ k → (10 ≡ count) × (es ≡ to)
+  pub cut-full : wide ≤ k → ((wide + 1) ≡ count) × (es ≡ to)
   unfolding cutCount cutEnds
   cut-full b =
       split (lineEnds s (fieldEnd s at))
       (λ l. (
-        sym (w .count-is ∙ rw (last s at h (fieldEnd s at) refl l, le-ltb k 9 b)),
-        sym (w .ends-are ∙ rw (last s at h (fieldEnd s at) refl l, le-ltb k 9 b)),
+        sym (w .count-is ∙ rw (last s at h (fieldEnd s at) refl l, le-ltb k wide b)),
+        sym (w .ends-are ∙ rw (last s at h (fieldEnd s at) refl l, le-ltb k wide b)),
       ))
       (λ l. (
-        sym (w .count-is ∙ rw (more s at h (fieldEnd s at) refl l, le-ltb k 9 b)),
-        sym (w .ends-are ∙ rw (more s at h (fieldEnd s at) refl l, le-ltb k 9 b)),
+        sym (w .count-is ∙ rw (more s at h (fieldEnd s at) refl l, le-ltb k wide b)),
+        sym (w .ends-are ∙ rw (more s at h (fieldEnd s at) refl l, le-ltb k wide b)),
       ))
 
 -- A line with a number of fields up to nine is one of that count.
-module _ (fs : List (List ℕ)) (n : ℕ) (m : n ≤ 9) where
+module _ (fs : List (List ℕ)) (n : ℕ) (m : n ≤ wide) where
   counted-as : cutCount 0 fs ≡ n → length fs ≡ n
   counted-as h =
-      split (ltb 9 (0 + length fs))
-      (λ e. absurd (let z : 10 ≡ n = sym (cut-count fs 0 (omega arith) ∙ rw e) ∙ h in omega arith))
+      split (ltb wide (0 + length fs))
+      (λ e. absurd (let z : (wide + 1) ≡ n = sym (cut-count fs 0 (omega arith) ∙ rw e) ∙ h in omega arith))
       (λ e. let z : 0 + length fs ≡ n = sym (cut-count fs 0 (omega arith) ∙ rw e) ∙ h in omega arith)
 
   not-counted : (cutCount 0 fs ≡ n → ⊥) → length fs ≡ n → ⊥
   not-counted h e =
       let z : 0 + length fs ≡ n = omega arith in
-      h (cut-count fs 0 (omega arith) ∙ rw (le-ltb 9 (0 + length fs) (omega arith)) z)
+      h (cut-count fs 0 (omega arith) ∙ rw (le-ltb wide (0 + length fs) (omega arith)) z)
 
 -- ---- the fields of a line by where they end
 -- A field is the bytes from one offset to another.
@@ -183,7 +183,7 @@ pub record Width (n : ℕ) : Type 0 where
   pub kind-to : kindField n ≤ widthOf n
   pub code-from : 1 ≤ codeField n
   pub code-to : codeField n ≤ widthOf n
-  pub most : widthOf n ≤ 9
+  pub most : widthOf n ≤ wide
 
 width-by : (n m : ℕ) → eqb n m ≡ true → Width m → Width n
 width-by n m e w = subst Width (sym (eqb-true n m e)) w

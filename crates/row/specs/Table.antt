@@ -6,14 +6,12 @@ use mathlib.Core.List.{List, [], _∷_, _++_, map}
 use lib.Dec.{eqb, leb}
 use lib.ListN.{length, getD, replicate}
 use Rattle.cells.specs.Text.{bytes}
+use Rattle.cells.specs.Limits.{keptMost}
 use Rattle.cells.specs.Same.{eqs}
+use Rattle.line.specs.Fields.{nth}
 use Rattle.field.specs.Field.{rule, free, required, forbidden, text, drugCode, date, site, usageCode, supplementCode, amount, number, codeKind, newRp, ownRp, drugSerial, supplementSerial}
 use Rattle.field.specs.declared.Rule.{Rule}
 use Rattle.row.specs.declared.Rules.{Rules}
-
--- The kth field, counted from 1; empty where there are fewer.
-abbrev pub nth : ℕ → List (List ℕ) → List ℕ
-nth k fs = getD fs (k - 1) []
 
 -- The one character of a field, as of a kind; 0 where it has not one.
 unfoldable pub mark : List ℕ → ℕ
@@ -82,13 +80,17 @@ rulesFrom n kind code =
     (cond (eqb n 111) (rules111 (onlyWith 0x32 kind))
     (cond (eqb n 181) (rules181 (onlyWith 0x38 kind) (onlyWith 0x39 kind)) (rules201 (drugCodeNeed kind) (nameNeed kind code)))))
 
+-- A row has room for as many fields.
+abbrev pub wide : ℕ
+wide = 12
+
 -- A rule of no field.
 abbrev pub noRule : Rule
 noRule = rule 0 0 0 0
 
--- Rules in nine cells, as many as there are.
+-- Rules in a row's cells, as many as there are.
 abbrev pub tableOf : List Rule → Rules
-tableOf rs = record { count = length rs; each = rs ++ replicate (9 - length rs) noRule }
+tableOf rs = record { count = length rs; each = rs ++ replicate (wide - length rs) noRule }
 
 -- The rules of a table's record, by its fields.
 abbrev pub rulesOf : ℕ → List (List ℕ) → List Rule
@@ -96,7 +98,7 @@ rulesOf n fs = rulesFrom n (nth (kindField n) fs) (nth (codeField n) fs)
 
 -- "Those with no line here are kept as one or more fields of text, each 0 to 200 bytes."
 abbrev pub keptRule : Rule
-keptRule = text free 200
+keptRule = text free keptMost
 
 -- The rules of a record's fields, as many as it has.
 unfoldable pub rules : ℕ → List (List ℕ) → List Rule

@@ -1,33 +1,36 @@
 // The fields of a record, by document 01's table: how many they are, what each must be, and what each is read as.
+use cells::Fault;
+use field::Before;
 use field::Field;
 use field::Rule;
-use field::Sofar;
 ghost use mathlib.Core.Path.{_≡_};
 ghost use mathlib.Core.Bool.{true};
 ghost use Prim.Native.Nat.{_≤_};
 ghost use lib.ListN.{length};
+ghost use Rattle.line.specs.Fields.{nth, fieldsAt, lineEnds};
 ghost use Rattle.cells.specs.Text.{bytes};
 ghost use Rattle.cells.specs.Same.{eqs};
-ghost use Rattle.field.specs.Field.{rule as ruleOf};
-ghost use Rattle.schedule.specs.Kept.{mayJoin};
-ghost use Rattle.row.specs.Table.{mark as markOf, tableOf, rules51, rules101, rules111, rules181, rules201, kindField, codeField, rulesFrom, rulesOf, keptRule, typed as typedOf, nth};
-ghost use Rattle.row.specs.Row.{fieldsAt, lineEnds, refusedAt, miscounted as miscountedRow, fine as fineRow, readRow, zeros, numbersOf, amountsOf, endsOf};
+ghost use Rattle.field.specs.Field.{context, rule as ruleOf};
+ghost use Rattle.row.specs.Table.{mark as markOf, wide, tableOf, rules51, rules101, rules111, rules181, rules201, kindField, codeField, rulesFrom, rulesOf, keptRule, typed as typedOf};
+ghost use Rattle.row.specs.Row.{refusedAt, miscounted as miscountedRow, fine as fineRow, readRow, zeros, numbersOf, amountsOf, endsOf};
 ghost use Rattle.row.specs.Code.Walk.{needWith, drugNeed, nameNeedOf, widthOf, cutCount, cutEnds, marks, rowFrom, keptFrom, Walked, Filled};
 
-// The number 0, and the place after the CR that ends the fields; or the refusal's number, the field, counted from 1 (0 for 25), and for 29 the
-// code's own number and place.
+// A row has room for as many fields: the length of its arrays.
+pub const WIDE: usize = 12;
+
+// What is wrong, and in which field, counted from 1 (0 for 25), for 29 with the code's own number; the number 0 where nothing is, and the place after
+// the CR that ends the fields.
 pub struct Row {
-    pub number: u16,
+    pub fault: Fault,
     pub field: usize,
     pub code: u16,
-    pub place: usize,
     pub after: usize,
 }
 
 // The rules of a record's fields, as many as it has.
 pub struct Rules {
     pub count: usize,
-    pub each: [Rule; 9],
+    pub each: [Rule; WIDE],
 }
 
 fn rule(need: u8, form: u8, lo: u16, hi: u16) -> Rule
@@ -59,6 +62,9 @@ fn table_51() -> Rules
             unused,
             unused,
             unused,
+            unused,
+            unused,
+            unused,
         ],
     }
 }
@@ -74,6 +80,9 @@ fn table_101() -> Rules
             rule(field::REQUIRED, field::NUMBER, 1, 99),
             rule(field::FREE, field::TEXT, 0, 80),
             rule(field::REQUIRED, field::NUMBER, 1, 999),
+            unused,
+            unused,
+            unused,
             unused,
             unused,
             unused,
@@ -99,6 +108,9 @@ fn table_111(code: u8) -> Rules
             unused,
             unused,
             unused,
+            unused,
+            unused,
+            unused,
         ],
     }
 }
@@ -119,6 +131,9 @@ fn table_181(code: u8, site: u8) -> Rules
             unused,
             unused,
             unused,
+            unused,
+            unused,
+            unused,
         ],
     }
 }
@@ -126,6 +141,7 @@ fn table_181(code: u8, site: u8) -> Rules
 fn table_201(code: u8, name: u8) -> Rules
     ensures { λ t. ⌜ t ≡ tableOf (rules201 code name) ⌝ }
 {
+    let unused = rule(0, 0, 0, 0);
     Rules {
         count: 9,
         each: [
@@ -138,6 +154,9 @@ fn table_201(code: u8, name: u8) -> Rules
             rule(field::REQUIRED, field::AMOUNT, 0, 0),
             rule(field::REQUIRED, field::NUMBER, 1, 2),
             rule(field::REQUIRED, field::TEXT, 0, 12),
+            unused,
+            unused,
+            unused,
         ],
     }
 }
@@ -206,59 +225,29 @@ fn is_unlisted(f: &[u8]) -> bool
 
 // ---- the fields of a line
 
-// Does the last field of a line end at a place: at a CR, or at the end of the file? A comma stands after any other.
-pub fn line_ends(s: &[u8], at: usize) -> bool
-    ensures { λ r. ⌜ r ≡ lineEnds (now (s .entry)) at ⌝ }
-{
-    if at < s.len() {
-        return s[at] != b',';
-    }
-    true
-}
-
-// The nth field, counted from 1, of those at a place; nothing where there are fewer.
-pub fn nth_field(s: &[u8], at: usize, n: usize) -> &[u8]
-    ensures { λ r. ⌜ now r ≡ nth n (fieldsAt (now (s .entry)) at) ⌝ }
-{
-    if s.len() < at {
-        return &s[0..0];
-    }
-    let mut from = at;
-    let mut k: usize = 1;
-    while k < n {
-        let end = line::field_end(s, from);
-        if line_ends(s, end) {
-            return &s[0..0];
-        }
-        from = end + 1;
-        k += 1;
-    }
-    let to = line::field_end(s, from);
-    &s[from..to]
-}
-
-// Parts the line at a place, in one pass: how many its fields are, 10 for any number above nine; and where the first nine end, into an array.
-fn part_line(s: &[u8], at: usize, ends: &mut [usize; 9]) -> usize
+// Parts the line at a place, in one pass: how many its fields are, one more than a row has room for where they are more; and where those
+// end that it has room for, into an array.
+fn part_line(s: &[u8], at: usize, ends: &mut [usize; WIDE]) -> usize
     requires { ⌜ at ≤ length (now s) ⌝ }
     ensures { λ k. ⌜ (k ≡ cutCount 0 (fieldsAt (now (s .entry)) at)) × (now (ends .exit) ≡ cutEnds 0 at (fieldsAt (now (s .entry)) at) (now (ends .entry))) ⌝ }
 {
     let mut from = at;
     let mut k: usize = 0;
-    while k < 9 {
+    while k < WIDE {
         let end = line::field_end(s, from);
         ends[k] = end;
         k += 1;
-        if line_ends(s, end) {
+        if line::line_ends(s, end) {
             return k;
         }
         from = end + 1;
     }
-    10
+    WIDE + 1
 }
 
 // The nth field, counted from 1, of those that end there.
-fn cut_field<'a>(s: &'a [u8], at: usize, ends: &[usize; 9], n: usize) -> &'a [u8]
-    requires { ⌜ (at ≤ length (now s)) × (1 ≤ n) × (n ≤ length (fieldsAt (now s) at)) × (n ≤ 9) × (marks (now ends) 0 at (fieldsAt (now s) at) ≡ true) ⌝ }
+fn cut_field<'a>(s: &'a [u8], at: usize, ends: &[usize; WIDE], n: usize) -> &'a [u8]
+    requires { ⌜ (at ≤ length (now s)) × (1 ≤ n) × (n ≤ length (fieldsAt (now s) at)) × (n ≤ wide) × (marks (now ends) 0 at (fieldsAt (now s) at) ≡ true) ⌝ }
     ensures { λ r. ⌜ now r ≡ nth n (fieldsAt (now (s .entry)) at) ⌝ }
 {
     let to = ends[n - 1];
@@ -352,7 +341,7 @@ fn width(n: u16) -> usize
 }
 
 // The rules of the typed record whose fields stand at a place, as many as it has, and end there.
-fn table(n: u16, s: &[u8], at: usize, ends: &[usize; 9]) -> Rules
+fn table(n: u16, s: &[u8], at: usize, ends: &[usize; WIDE]) -> Rules
     requires { ⌜ (at ≤ length (now s)) × (length (fieldsAt (now s) at) ≡ widthOf n) × (marks (now ends) 0 at (fieldsAt (now s) at) ≡ true) ⌝ }
     ensures { λ t. ⌜ t ≡ tableOf (rulesOf n (fieldsAt (now (s .entry)) at)) ⌝ }
 {
@@ -381,11 +370,11 @@ pub fn typed(n: u16) -> bool
 fn refused(field: usize, f: Field) -> Row
     ensures { λ r. ⌜ r ≡ refusedAt field f ⌝ }
 {
+    let fault = f.fault;
     Row {
-        number: f.number,
+        fault: fault,
         field: field,
         code: f.code,
-        place: f.place,
         after: 0,
     }
 }
@@ -395,10 +384,12 @@ fn miscounted() -> Row
     ensures { λ r. ⌜ r ≡ miscountedRow ⌝ }
 {
     Row {
-        number: 25,
+        fault: Fault {
+            number: 25,
+            place: 0,
+        },
         field: 0,
         code: 0,
-        place: 0,
         after: 0,
     }
 }
@@ -408,33 +399,35 @@ fn fine(after: usize) -> Row
     ensures { λ r. ⌜ r ≡ fineRow after ⌝ }
 {
     Row {
-        number: 0,
+        fault: Fault {
+            number: 0,
+            place: 0,
+        },
         field: 0,
         code: 0,
-        place: 0,
         after: after,
     }
 }
 
 // Field by field, by the rules of a typed record; what the fields are read as goes into two arrays.
 fn read_typed(
-    c: Sofar,
+    b: Before,
     s: &[u8],
     at: usize,
     t: Rules,
-    numbers: &mut [u16; 9],
-    amounts: &mut [u64; 9],
-    ends: &[usize; 9],
+    numbers: &mut [u16; WIDE],
+    amounts: &mut [u64; WIDE],
+    ends: &[usize; WIDE],
 ) -> Row
-    requires { ⌜ (at ≤ length (now s)) × (t .count ≤ 9) × (length (fieldsAt (now s) at) ≡ t .count) × (marks (now ends) 0 at (fieldsAt (now s) at) ≡ true) ⌝ }
-    ensures { λ r. ⌜ (r ≡ rowFrom (mayJoin (c .month) (c .schedule)) c 0 at (t .each) (fieldsAt (now (s .entry)) at)) × Walked r (t .each) (fieldsAt (now (s .entry)) at) (now (numbers .entry)) (now (amounts .entry)) (now (numbers .exit)) (now (amounts .exit)) ⌝ }
+    requires { ⌜ (at ≤ length (now s)) × (t .count ≤ wide) × (length (fieldsAt (now s) at) ≡ t .count) × (marks (now ends) 0 at (fieldsAt (now s) at) ≡ true) ⌝ }
+    ensures { λ r. ⌜ (r ≡ rowFrom (context b) 0 at (t .each) (fieldsAt (now (s .entry)) at)) × Walked r (t .each) (fieldsAt (now (s .entry)) at) (now (numbers .entry)) (now (amounts .entry)) (now (numbers .exit)) (now (amounts .exit)) ⌝ }
 {
     let mut from = at;
     let mut i: usize = 0;
     while i < t.count {
         let to = ends[i];
-        let f = field::read(c, t.each[i], &s[from..to]);
-        if f.number != 0 {
+        let f = field::read(b, t.each[i], &s[from..to]);
+        if f.fault.number != 0 {
             return refused(i + 1, f);
         }
         numbers[i] = f.n;
@@ -446,19 +439,19 @@ fn read_typed(
 }
 
 // Field by field, texts of at most 200 bytes.
-fn read_kept(c: Sofar, s: &[u8], at: usize) -> Row
+fn read_kept(b: Before, s: &[u8], at: usize) -> Row
     requires { ⌜ at ≤ length (now s) ⌝ }
-    ensures { λ r. ⌜ r ≡ keptFrom (mayJoin (c .month) (c .schedule)) c 1 at (fieldsAt (now (s .entry)) at) ⌝ }
+    ensures { λ r. ⌜ r ≡ keptFrom (context b) 1 at (fieldsAt (now (s .entry)) at) ⌝ }
 {
     let mut from = at;
     let mut i: usize = 1;
     loop {
         let to = line::field_end(s, from);
-        let f = field::read(c, kept_rule(), &s[from..to]);
-        if f.number != 0 {
+        let f = field::read(b, kept_rule(), &s[from..to]);
+        if f.fault.number != 0 {
             return refused(i, f);
         }
-        if line_ends(s, to) {
+        if line::line_ends(s, to) {
             return fine(to + 1);
         }
         from = to + 1;
@@ -468,51 +461,51 @@ fn read_kept(c: Sofar, s: &[u8], at: usize) -> Row
 
 // A typed record that has as many fields as its table. The arrays come as zeros, and say nothing of a record that is refused.
 fn read_counted(
-    c: Sofar,
+    b: Before,
     s: &[u8],
     n: u16,
     at: usize,
-    numbers: &mut [u16; 9],
-    amounts: &mut [u64; 9],
-    ends: &mut [usize; 9],
+    numbers: &mut [u16; WIDE],
+    amounts: &mut [u64; WIDE],
+    ends: &mut [usize; WIDE],
 ) -> Row
     requires { ⌜ (at ≤ length (now s)) × (typedOf n ≡ true) × (now numbers ≡ zeros) × (now amounts ≡ zeros) × (now ends ≡ zeros) ⌝ }
-    ensures { λ r. ⌜ (r ≡ readRow (mayJoin (c .month) (c .schedule)) c n at (fieldsAt (now (s .entry)) at)) × Filled n at (fieldsAt (now (s .entry)) at) r (now (numbers .exit)) (now (amounts .exit)) (now (ends .exit)) ⌝ }
+    ensures { λ r. ⌜ (r ≡ readRow (context b) n at (fieldsAt (now (s .entry)) at)) × Filled n at (fieldsAt (now (s .entry)) at) r (now (numbers .exit)) (now (amounts .exit)) (now (ends .exit)) ⌝ }
 {
     if part_line(s, at, ends) != width(n) {
         return miscounted();
     }
     let t = table(n, s, at, ends);
-    read_typed(c, s, at, t, numbers, amounts, ends)
+    read_typed(b, s, at, t, numbers, amounts, ends)
 }
 
 // Reads the fields at a place of the file, of a record of this number. Three arrays take, of a typed record that is not refused, each field's
 // number, its amount, and the place of the comma or CR after it, with zeros after the last field; of any other they stay as they were.
 pub fn read(
-    c: Sofar,
+    b: Before,
     s: &[u8],
     n: u16,
     at: usize,
-    numbers: &mut [u16; 9],
-    amounts: &mut [u64; 9],
-    ends: &mut [usize; 9],
+    numbers: &mut [u16; WIDE],
+    amounts: &mut [u64; WIDE],
+    ends: &mut [usize; WIDE],
 ) -> Row
-    ensures { λ r. ⌜ (r ≡ readRow (mayJoin (c .month) (c .schedule)) c n at (fieldsAt (now (s .entry)) at)) × (now (numbers .exit) ≡ numbersOf n r (fieldsAt (now (s .entry)) at) (now (numbers .entry))) × (now (amounts .exit) ≡ amountsOf n r (fieldsAt (now (s .entry)) at) (now (amounts .entry))) × (now (ends .exit) ≡ endsOf n r at (fieldsAt (now (s .entry)) at) (now (ends .entry))) ⌝ }
+    ensures { λ r. ⌜ (r ≡ readRow (context b) n at (fieldsAt (now (s .entry)) at)) × (now (numbers .exit) ≡ numbersOf n r (fieldsAt (now (s .entry)) at) (now (numbers .entry))) × (now (amounts .exit) ≡ amountsOf n r (fieldsAt (now (s .entry)) at) (now (amounts .entry))) × (now (ends .exit) ≡ endsOf n r at (fieldsAt (now (s .entry)) at) (now (ends .entry))) ⌝ }
 {
     if s.len() < at {
         return miscounted();
     }
     if !typed(n) {
-        return read_kept(c, s, at);
+        return read_kept(b, s, at);
     }
     let numbers_before = *numbers;
     let amounts_before = *amounts;
     let ends_before = *ends;
-    *numbers = [0; 9];
-    *amounts = [0; 9];
-    *ends = [0; 9];
-    let w = read_counted(c, s, n, at, numbers, amounts, ends);
-    if w.number != 0 {
+    *numbers = [0; WIDE];
+    *amounts = [0; WIDE];
+    *ends = [0; WIDE];
+    let w = read_counted(b, s, n, at, numbers, amounts, ends);
+    if w.fault.number != 0 {
         *numbers = numbers_before;
         *amounts = amounts_before;
         *ends = ends_before;

@@ -4,19 +4,20 @@ use Prim.Native.Nat.{_+_, _-_, _≤_}
 use mathlib.Core.Path.{refl, sym, _∙_}
 use borrow.Author.Needs.{needs}
 use lib.ListN.{length}
-use Rattle.row.specs.Row.{fieldsAt}
+use Rattle.row.specs.Table.{wide}
+use Rattle.line.specs.Fields.{fieldsAt}
+use Rattle.line.proofs.Walk.{more-fit}
 use Rattle.row.specs.Code.Walk.{cutCount, cutEnds}
-use Rattle.row.proofs.Walk.{more-fit}
 use Rattle.row.proofs.Parted.{Cut, cut-last, cut-more, cut-full}
 use Rattle.row.proofs.part_line.Statement.{statement}
 use Rattle.row.proofs.part_line.Tie as tie
 
 abbrev Inv-loop : tie.InvT-loop
 Inv-loop s at ends₀ from₀ k₀ ends from k =
-    (k ≤ 9) × (from ≤ length s) × Cut k from (fieldsAt s from) ends (cutCount 0 (fieldsAt s at)) (cutEnds 0 at (fieldsAt s at) ends₀)
+    (k ≤ wide) × (from ≤ length s) × Cut k from (fieldsAt s from) ends (cutCount 0 (fieldsAt s at)) (cutEnds 0 at (fieldsAt s at) ends₀)
 
 abbrev μ-loop : tie.MeasureT-loop
-μ-loop s at ends₀ from₀ k₀ ends from k = 9 - k
+μ-loop s at ends₀ from₀ k₀ ends from k = wide - k
 
 loop-holds : tie.Need-loop-holds Inv-loop μ-loop
 loop-holds c = (omega arith, c .before .pre, record { count-is = refl; ends-are = refl })
@@ -64,6 +65,9 @@ loop-again c =
     more-fit (a .s .now) (l .from) (l .inv .1) (e .result) (e .ensures) (sym (c .before .line-ends .ensures) ∙ c .if1 .left) in
     (omega arith, f, cut-more (a .s .now) (l .from) (l .inv .1) (l .k) (l .ends) _ _ (l .inv .2) (e .result) (e .ensures) (omega arith) (sym (c .before .line-ends .ensures) ∙ c .if1 .left))
 
+add-result : tie.Need-add-result Inv-loop μ-loop
+add-result c = search needs
+
 returns-2 : tie.Need-returns-2 Inv-loop μ-loop
 returns-2 c =
     let a = c .before .before .before .args in
@@ -86,4 +90,5 @@ part-line-spec =
     add-from
     loop-less
     loop-again
+    add-result
     returns-2)

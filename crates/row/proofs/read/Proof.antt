@@ -1,17 +1,17 @@
 -- Typed or kept, inside the file; nothing is noted of a row that is refused, and the arrays are as they were.
 use Prim.Native.Nat.{ℕ}
 use mathlib.Core.Path.{_≡_, refl, sym, ap, _∙_}
-use mathlib.Core.Bool.{Bool, true, false}
+use mathlib.Core.Bool.{true, false}
 use mathlib.Core.List.{List}
 use native.Mathlib.Omega.{arith}
 use borrow.Author.Needs.{needs}
 use borrow.Author.Tests.{not-true, not-false}
-use Rattle.supplement.specs.declared.Supplement.{Supplement}
-use Rattle.schedule.specs.Kept.{mayJoin}
+use Rattle.field.specs.Field.{context}
 use Rattle.row.specs.Table.{typed}
-use Rattle.row.specs.Row.{fieldsAt, readRow}
+use Rattle.row.specs.Row.{readRow}
 use Rattle.row.specs.declared.Row.{Row}
-use Rattle.row.proofs.Walk.{outside, some}
+use Rattle.line.specs.Fields.{fieldsAt}
+use Rattle.line.proofs.Walk.{outside, some}
 use Rattle.row.proofs.Bridge.{kept-row, no-fields}
 use Rattle.row.proofs.Noted.{kept-noted, refused-noted, right-noted, none-noted, all-noted}
 use Rattle.row.proofs.read.Statement.{statement}
@@ -23,13 +23,12 @@ miscounted-requires c κs = search needs
 returns : tie.Need-returns
 returns c =
     let a = c .before .before .before .args in
-    let j : Supplement → Bool = mayJoin (a .c .month) (a .c .schedule) in
     let w : Row = c .miscounted .result in
     let m = none-noted (a .n) w (a .at) (fieldsAt (a .s .now) (a .at)) (a .numbers .now) (a .amounts .now) (a .ends .now)
-    (refused-noted (a .n) w (λ z. let y : _≡_ {A = ℕ} 25 0 = ap (λ (x : Row). x .number) (sym (c .miscounted .ensures)) ∙ z in absurd (omega arith))) in (
+    (refused-noted (a .n) w (λ z. let y : _≡_ {A = ℕ} 25 0 = ap (λ (x : Row). x .fault .number) (sym (c .miscounted .ensures)) ∙ z in absurd (omega arith))) in (
       c .miscounted .ensures
           ∙ sym
-          (ap (readRow j (a .c) (a .n) (a .at)) (outside (a .s .now) (a .at) (omega arith)) ∙ no-fields j (a .c) (a .n) (a .at)),
+          (ap (readRow (context (a .b)) (a .n) (a .at)) (outside (a .s .now) (a .at) (omega arith)) ∙ no-fields (context (a .b)) (a .n) (a .at)),
       m .0,
       m .1,
       m .2,
@@ -44,11 +43,10 @@ read-kept-requires c κs = search needs
 returns-2 : tie.Need-returns-2
 returns-2 c =
     let a = c .before .before .before .before .before .args in
-    let j : Supplement → Bool = mayJoin (a .c .month) (a .c .schedule) in
     let fs : List (List ℕ) = fieldsAt (a .s .now) (a .at) in
     let k : typed (a .n) ≡ false = sym (c .before .before .typed .ensures) ∙ not-true _ (c .before .if2 .taken) in
     let m = none-noted (a .n) (c .read-kept .result) (a .at) fs (a .numbers .now) (a .amounts .now) (a .ends .now) (kept-noted (a .n) (c .read-kept .result) k) in
-    (c .read-kept .ensures ∙ kept-row j (a .c) (a .n) (a .at) fs k (some (a .s .now) (a .at) (omega arith)), m .0, m .1, m .2)
+    (c .read-kept .ensures ∙ kept-row (context (a .b)) (a .n) (a .at) fs k (some (a .s .now) (a .at) (omega arith)), m .0, m .1, m .2)
 
 read-counted-requires : tie.Need-read-counted-requires
 read-counted-requires c κs = (omega arith, sym (c .before .before .before .before .before .before .before .before .before .before .typed .ensures) ∙ not-false _ (c .before .before .before .before .before .before .before .before .before .if2 .left), refl, refl, refl)

@@ -1,16 +1,15 @@
 -- By the number of fields: as many as the table has, or 25.
 use Prim.Native.Nat.{ℕ, _≤_}
 use mathlib.Core.Path.{_≡_, sym, ap, ap₂, _∙_}
-use mathlib.Core.Bool.{Bool}
 use mathlib.Core.List.{List}
 use native.Mathlib.Omega.{arith}
 use borrow.Author.Needs.{needs}
 use lib.ListN.{length}
-use Rattle.supplement.specs.declared.Supplement.{Supplement}
-use Rattle.schedule.specs.Kept.{mayJoin}
+use Rattle.line.specs.Fields.{fieldsAt}
+use Rattle.field.specs.Field.{context}
 use Rattle.field.specs.declared.Rule.{Rule}
-use Rattle.row.specs.Table.{rules, rulesOf}
-use Rattle.row.specs.Row.{fieldsAt, numbers, amounts, inNine}
+use Rattle.row.specs.Table.{wide, rules, rulesOf}
+use Rattle.row.specs.Row.{numbers, amounts, inCells}
 use Rattle.row.specs.Code.Walk.{widthOf, rowFrom, numbersFrom, amountsFrom, cutEnds}
 use Rattle.row.specs.declared.Row.{Row}
 use Rattle.row.specs.declared.Rules.{Rules}
@@ -35,13 +34,12 @@ returns c =
     let a = f .args in
     let p = c .before .before .before .part-line in
     let w = c .before .before .width in
-    let fs : List (List ℕ) = fieldsAt (a .s .now) (a .at) in
-    let j : Supplement → Bool = mayJoin (a .c .month) (a .c .schedule) in (
+    let fs : List (List ℕ) = fieldsAt (a .s .now) (a .at) in (
       c .miscounted .ensures
           ∙ sym
-          (miscounted-row j (a .c) (a .n) (a .at) fs (f .pre .1)
-          (λ l. not-as-wide fs (a .n) (p .result) (p .ensures .0) (w .result) (w .ensures) (c .before .if1 .taken) (l ∙ table-width j (a .c) (a .n) (a .at) fs))),
-      λ z. absurd (let y : _≡_ {A = ℕ} 25 0 = ap (λ (x : Row). x .number) (sym (c .miscounted .ensures)) ∙ z in omega arith),
+          (miscounted-row (context (a .b)) (a .n) (a .at) fs (f .pre .1)
+          (λ l. not-as-wide fs (a .n) (p .result) (p .ensures .0) (w .result) (w .ensures) (c .before .if1 .taken) (l ∙ table-width (context (a .b)) (a .n) (a .at) fs))),
+      λ z. absurd (let y : _≡_ {A = ℕ} 25 0 = ap (λ (x : Row). x .fault .number) (sym (c .miscounted .ensures)) ∙ z in omega arith),
     )
 
 table-requires : tie.Need-table-requires
@@ -63,7 +61,7 @@ read-typed-requires c κs =
     let fs : List (List ℕ) = fieldsAt (a .s .now) (a .at) in
     let k = as-wide fs (a .n) (p .result) (p .ensures .0) (w .result) (w .ensures) (c .before .before .before .before .before .if1 .left) in
     let t : c .before .before .before .table .result .count ≡ widthOf (a .n) =
-    ap (λ (t : Rules). t .count) (c .before .before .before .table .ensures) ∙ table-width (mayJoin (a .c .month) (a .c .schedule)) (a .c) (a .n) (a .at) fs in (
+    ap (λ (t : Rules). t .count) (c .before .before .before .table .ensures) ∙ table-width (context (a .b)) (a .n) (a .at) fs in (
       f .pre .0,
       omega (arith, t, width-of (a .n) .most),
       k ∙ sym t,
@@ -78,23 +76,22 @@ returns-2 c =
     let w = c .before .before .before .before .before .before .before .width in
     let t = c .before .before .before .before .table in
     let fs : List (List ℕ) = fieldsAt (a .s .now) (a .at) in
-    let j : Supplement → Bool = mayJoin (a .c .month) (a .c .schedule) in
     let k = as-wide fs (a .n) (p .result) (p .ensures .0) (w .result) (w .ensures) (c .before .before .before .before .before .before .if1 .left) in
-    let l : length fs ≡ length (rulesOf (a .n) fs) = k ∙ sym (table-width j (a .c) (a .n) (a .at) fs) in
-    let m : length fs ≤ 9 = omega (arith, k, width-of (a .n) .most) in
-    let y : rulesOf (a .n) fs ≡ rules (a .n) fs = sym (typed-rules j (a .c) (a .n) (a .at) fs (f .pre .1)) in (
+    let l : length fs ≡ length (rulesOf (a .n) fs) = k ∙ sym (table-width (context (a .b)) (a .n) (a .at) fs) in
+    let m : length fs ≤ wide = omega (arith, k, width-of (a .n) .most) in
+    let y : rulesOf (a .n) fs ≡ rules (a .n) fs = sym (typed-rules (context (a .b)) (a .n) (a .at) fs (f .pre .1)) in (
       c .read-typed .ensures .0
-          ∙ ap (λ (x : Rules). rowFrom j (a .c) 0 (a .at) (x .each) fs) (t .ensures)
-          ∙ typed-row j (a .c) (a .n) (a .at) fs (f .pre .1) l,
+          ∙ ap (λ (x : Rules). rowFrom (context (a .b)) 0 (a .at) (x .each) fs) (t .ensures)
+          ∙ typed-row (context (a .b)) (a .n) (a .at) fs (f .pre .1) l,
       λ z. (
         c .read-typed .ensures .1 z .0
             ∙ ap₂ (λ (x : Rules) (ns : List ℕ). numbersFrom 0 (x .each) fs ns) (t .ensures) (f .pre .2)
             ∙ numbers-noted fs m (rulesOf (a .n) fs) l
-            ∙ ap (λ (rs : List Rule). inNine (numbers rs fs)) y,
+            ∙ ap (λ (rs : List Rule). inCells (numbers rs fs)) y,
         c .read-typed .ensures .1 z .1
             ∙ ap₂ (λ (x : Rules) (ms : List ℕ). amountsFrom 0 (x .each) fs ms) (t .ensures) (f .pre .3)
             ∙ amounts-noted fs m (rulesOf (a .n) fs) l
-            ∙ ap (λ (rs : List Rule). inNine (amounts rs fs)) y,
+            ∙ ap (λ (rs : List Rule). inCells (amounts rs fs)) y,
         p .ensures .1 ∙ ap (λ (es : List ℕ). cutEnds 0 (a .at) fs es) (f .pre .4) ∙ ends-noted fs m (a .at),
       ),
     )

@@ -10,54 +10,51 @@ use borrow.Author.Tests.{eq-eqb, ne-eqb}
 use lib.ListN.{length, take, drop}
 use lib.Seq.{slice}
 use Rattle.cells.proofs.Split.{split}
-use Rattle.line.specs.Fields.{fieldEnd}
-use Rattle.supplement.specs.declared.Supplement.{Supplement}
-use Rattle.schedule.specs.Kept.{mayJoin}
-use Rattle.field.specs.Field.{free, text, readField}
+use Rattle.line.specs.Fields.{fieldEnd, fieldsAt, lineEnds}
+use Rattle.field.specs.Field.{Context, context, free, text, readField}
 use Rattle.field.specs.declared.Rule.{Rule}
-use Rattle.field.specs.declared.Sofar.{Sofar}
 use Rattle.field.specs.declared.Field.{Field}
 use Rattle.line.proofs.Laws.{part}
-use Rattle.row.specs.Row.{fieldsAt, refusedAt, lineEnds}
+use Rattle.row.specs.Row.{refusedAt}
 use Rattle.row.specs.Code.Walk.{keptFrom}
-use Rattle.row.proofs.Walk.{after-start, size, more, more-fit, last, within}
+use Rattle.line.proofs.Walk.{after-start, size, more, more-fit, last, within}
 use Rattle.row.proofs.read_kept.Statement.{statement}
 use Rattle.row.proofs.read_kept.Tie as tie
 
-module _ (joins : Supplement → Bool) (c : Sofar) (s : List ℕ) (at : ℕ) (h : at ≤ length s) (e : ℕ) (q : e ≡ fieldEnd s at) (u : Rule)
-    (m : u ≡ text free 200) (t : Field) (g : t ≡ readField joins c u (take (e - at) (drop at s))) (i : ℕ) where
-  read : t ≡ readField joins c (text free 200) (slice at e s)
+module _ (c : Context) (s : List ℕ) (at : ℕ) (h : at ≤ length s) (e : ℕ) (q : e ≡ fieldEnd s at) (u : Rule)
+    (m : u ≡ text free 200) (t : Field) (g : t ≡ readField c u (take (e - at) (drop at s))) (i : ℕ) where
+  read : t ≡ readField c (text free 200) (slice at e s)
   read = g ∙ rw (m, part s at e (after-start s at h e q))
 
-  taken : (fs : List (List ℕ)) → t .number ≡ 0 → keptFrom joins c i at (slice at e s ∷ fs) ≡ keptFrom joins c (i + 1) (e + 1) fs
+  taken : (fs : List (List ℕ)) → t .fault .number ≡ 0 → keptFrom c i at (slice at e s ∷ fs) ≡ keptFrom c (i + 1) (e + 1) fs
   unfolding keptFrom
-  taken fs z = rw (← read, eq-eqb (t .number) 0 z, size s at h e q)
+  taken fs z = rw (← read, eq-eqb (t .fault .number) 0 z, size s at h e q)
 
-  wrong-before : (fs : List (List ℕ)) → (t .number ≡ 0 → ⊥) → keptFrom joins c i at (slice at e s ∷ fs) ≡ refusedAt i t
+  wrong-before : (fs : List (List ℕ)) → (t .fault .number ≡ 0 → ⊥) → keptFrom c i at (slice at e s ∷ fs) ≡ refusedAt i t
   unfolding keptFrom
-  wrong-before fs z = rw (← read, ne-eqb (t .number) 0 z)
+  wrong-before fs z = rw (← read, ne-eqb (t .fault .number) 0 z)
 
   -- the field is refused,
-  wrong-field : (t .number ≡ 0 → ⊥) → keptFrom joins c i at (fieldsAt s at) ≡ refusedAt i t
+  wrong-field : (t .fault .number ≡ 0 → ⊥) → keptFrom c i at (fieldsAt s at) ≡ refusedAt i t
   wrong-field z =
       split (lineEnds s e) (λ l. rw (last s at h e q l) (wrong-before _ z)) (λ l. rw (more s at h e q l) (wrong-before _ z))
 
   -- is the last,
-  last-field : t .number ≡ 0 → lineEnds s e ≡ true → keptFrom joins c i at (fieldsAt s at) ≡ keptFrom joins c (i + 1) (e + 1) []
+  last-field : t .fault .number ≡ 0 → lineEnds s e ≡ true → keptFrom c i at (fieldsAt s at) ≡ keptFrom c (i + 1) (e + 1) []
   last-field z l = rw (last s at h e q l) (taken [] z)
 
   -- or has others after it.
-  next-field : t .number ≡ 0 → lineEnds s e ≡ false →
-      keptFrom joins c i at (fieldsAt s at) ≡ keptFrom joins c (i + 1) (e + 1) (fieldsAt s (e + 1))
+  next-field : t .fault .number ≡ 0 → lineEnds s e ≡ false →
+      keptFrom c i at (fieldsAt s at) ≡ keptFrom c (i + 1) (e + 1) (fieldsAt s (e + 1))
   next-field z l = rw (more s at h e q l) (taken (fieldsAt s (e + 1)) z)
 
 abbrev Inv-loop : tie.InvT-loop
-Inv-loop c s at from₀ i₀ from i =
+Inv-loop b s at from₀ i₀ from i =
     (from ≤ length s) × (i ≤ from + 1)
-    × (keptFrom (mayJoin (c .month) (c .schedule)) c i from (fieldsAt s from) ≡ keptFrom (mayJoin (c .month) (c .schedule)) c 1 at (fieldsAt s at))
+    × (keptFrom (context b) i from (fieldsAt s from) ≡ keptFrom (context b) 1 at (fieldsAt s at))
 
 abbrev μ-loop : tie.MeasureT-loop
-μ-loop c s at from₀ i₀ from i = length s - from
+μ-loop b s at from₀ i₀ from i = length s - from
 
 loop-holds : tie.Need-loop-holds Inv-loop μ-loop
 loop-holds c = search needs
@@ -103,7 +100,7 @@ returns c =
     let u = c .before .before .before .before .before .kept-rule in
     let r = c .before .before .before .read in
     c .refused .ensures
-    ∙ sym (wrong-field (mayJoin (a .c .month) (a .c .schedule)) (a .c) (a .s .now) (l .from) (l .inv .0) (f .field-end .result) (f .field-end .ensures) (u .result) (u .ensures) (r .result) (r .ensures) (l .i) (c .before .if1 .taken))
+    ∙ sym (wrong-field (context (a .b)) (a .s .now) (l .from) (l .inv .0) (f .field-end .result) (f .field-end .ensures) (u .result) (u .ensures) (r .result) (r .ensures) (l .i) (c .before .if1 .taken))
     ∙ l .inv .2
 
 line-ends-requires : tie.Need-line-ends-requires Inv-loop μ-loop
@@ -129,7 +126,7 @@ returns-2 c =
     let r = c .before .before .before .before .before .read in
     let ends = sym (c .before .before .line-ends .ensures) ∙ c .before .if2 .taken in
     c .fine .ensures
-    ∙ sym (last-field (mayJoin (a .c .month) (a .c .schedule)) (a .c) (a .s .now) (l .from) (l .inv .0) (f .field-end .result) (f .field-end .ensures) (u .result) (u .ensures) (r .result) (r .ensures) (l .i) (c .before .before .before .if1 .left) ends)
+    ∙ sym (last-field (context (a .b)) (a .s .now) (l .from) (l .inv .0) (f .field-end .result) (f .field-end .ensures) (u .result) (u .ensures) (r .result) (r .ensures) (l .i) (c .before .before .before .if1 .left) ends)
     ∙ l .inv .2
 
 add-from : tie.Need-add-from Inv-loop μ-loop
@@ -163,7 +160,7 @@ loop-again c =
     let on = sym (c .before .line-ends .ensures) ∙ c .if2 .left in (
       more-fit (a .s .now) (l .from) (l .inv .0) (f .field-end .result) (f .field-end .ensures) on,
       omega (arith, within (a .s .now) (l .from) (l .inv .0) (f .field-end .result) (f .field-end .ensures)),
-      sym (next-field (mayJoin (a .c .month) (a .c .schedule)) (a .c) (a .s .now) (l .from) (l .inv .0) (f .field-end .result) (f .field-end .ensures) (u .result) (u .ensures) (r .result) (r .ensures) (l .i) (c .before .before .if1 .left) on) ∙ l .inv .2,
+      sym (next-field (context (a .b)) (a .s .now) (l .from) (l .inv .0) (f .field-end .result) (f .field-end .ensures) (u .result) (u .ensures) (r .result) (r .ensures) (l .i) (c .before .before .if1 .left) on) ∙ l .inv .2,
     )
 
 pub read-kept-spec : {M : Type 1} → statement M

@@ -13,20 +13,17 @@ use lib.ListN.{length, getD, set, take, drop}
 use lib.Seq.{slice}
 use Rattle.cells.proofs.Split.{split}
 use Rattle.cells.proofs.Alike.{and-left, and-right}
-use Rattle.line.specs.Fields.{fieldEnd}
-use Rattle.supplement.specs.declared.Supplement.{Supplement}
-use Rattle.schedule.specs.Kept.{mayJoin}
-use Rattle.field.specs.Field.{right, readField}
+use Rattle.line.specs.Fields.{fieldEnd, fieldsAt, lineEnds}
+use Rattle.field.specs.Field.{Context, context, right, readField}
 use Rattle.field.specs.declared.Rule.{Rule}
-use Rattle.field.specs.declared.Sofar.{Sofar}
 use Rattle.field.specs.declared.Field.{Field}
 use Rattle.field.proofs.Laws.{right-when}
 use Rattle.line.proofs.Laws.{part}
-use Rattle.row.specs.Row.{fieldsAt, refusedAt, lineEnds}
+use Rattle.row.specs.Row.{refusedAt}
 use Rattle.row.specs.Table.{noRule}
 use Rattle.row.specs.Code.Walk.{rowFrom, numbersFrom, amountsFrom, marks}
 use Rattle.row.specs.declared.Row.{Row}
-use Rattle.row.proofs.Walk.{after-start, size, more, more-fit, last, within, some}
+use Rattle.line.proofs.Walk.{after-start, size, more, more-fit, last, within, some}
 use Rattle.row.proofs.read_typed.Statement.{statement}
 use Rattle.row.proofs.read_typed.Tie as tie
 
@@ -73,32 +70,32 @@ module _ (s : List ℕ) (at : ℕ) (h : at ≤ length s) (e : ℕ) (q : e ≡ fi
   rest : i + 1 + length (left (i + 1) count s (e + 1)) ≡ count
   rest = let z = ap length (parts .0) in omega (arith, z)
 
-  module _ (joins : Supplement → Bool) (c : Sofar) (rs : List Rule) (t : Field)
-      (g : t ≡ readField joins c (getD rs i noRule) (take (e - at) (drop at s))) where
-    read : t ≡ readField joins c (getD rs i noRule) (slice at e s)
+  module _ (c : Context) (rs : List Rule) (t : Field)
+      (g : t ≡ readField c (getD rs i noRule) (take (e - at) (drop at s))) where
+    read : t ≡ readField c (getD rs i noRule) (slice at e s)
     read = g ∙ rw (part s at e (after-start s at h e q))
 
     -- it is refused,
-    wrong-field : (t .number ≡ 0 → ⊥) → rowFrom joins c i at rs (left i count s at) ≡ refusedAt (i + 1) t
+    wrong-field : (t .fault .number ≡ 0 → ⊥) → rowFrom c i at rs (left i count s at) ≡ refusedAt (i + 1) t
     unfolding rowFrom
-    wrong-field z = rw (parts .0, ← read, ne-eqb (t .number) 0 z)
+    wrong-field z = rw (parts .0, ← read, ne-eqb (t .fault .number) 0 z)
 
     -- or read.
-    read-field : t .number ≡ 0 →
-        rowFrom joins c i at rs (left i count s at) ≡ rowFrom joins c (i + 1) (e + 1) rs (left (i + 1) count s (e + 1))
+    read-field : t .fault .number ≡ 0 →
+        rowFrom c i at rs (left i count s at) ≡ rowFrom c (i + 1) (e + 1) rs (left (i + 1) count s (e + 1))
     unfolding rowFrom
-    read-field z = rw (parts .0, ← read, eq-eqb (t .number) 0 z, size s at h e q)
+    read-field z = rw (parts .0, ← read, eq-eqb (t .fault .number) 0 z, size s at h e q)
 
     -- What it is read as is what a right field is.
-    is-right : t .number ≡ 0 → t ≡ right (getD rs i noRule) (slice at e s)
-    is-right z = read ∙ right-when joins c (getD rs i noRule) (slice at e s) (ap (λ (x : Field). x .number) (sym read) ∙ z)
+    is-right : t .fault .number ≡ 0 → t ≡ right (getD rs i noRule) (slice at e s)
+    is-right z = read ∙ right-when c (getD rs i noRule) (slice at e s) (ap (λ (x : Field). x .fault .number) (sym read) ∙ z)
 
-    number-noted : t .number ≡ 0 → (ns : List ℕ) →
+    number-noted : t .fault .number ≡ 0 → (ns : List ℕ) →
         numbersFrom i rs (left i count s at) ns ≡ numbersFrom (i + 1) rs (left (i + 1) count s (e + 1)) (set ns i (t .n))
     unfolding numbersFrom
     number-noted z ns = rw (parts .0, is-right z)
 
-    amount-noted : t .number ≡ 0 → (ms : List ℕ) →
+    amount-noted : t .fault .number ≡ 0 → (ms : List ℕ) →
         amountsFrom i rs (left i count s at) ms ≡ amountsFrom (i + 1) rs (left (i + 1) count s (e + 1)) (set ms i (t .amount))
     unfolding amountsFrom
     amount-noted z ms = rw (parts .0, is-right z)
@@ -109,18 +106,18 @@ end-noted : (s : List ℕ) (at : ℕ) → at ≤ length s → (i count : ℕ) �
 end-noted s at h i count b n ends t = noted s at h (fieldEnd s at) refl i count b n ends t .0
 
 abbrev Inv-loop : tie.InvT-loop
-Inv-loop c s at numbers₀ amounts₀ ends t from₀ i₀ numbers amounts from i =
+Inv-loop b s at numbers₀ amounts₀ ends t from₀ i₀ numbers amounts from i =
     (i ≤ t .count)
     × (i < t .count → from ≤ length s)
     × (i + length (left i (t .count) s from) ≡ t .count)
-    × (rowFrom (mayJoin (c .month) (c .schedule)) c i from (t .each) (left i (t .count) s from)
-    ≡ rowFrom (mayJoin (c .month) (c .schedule)) c 0 at (t .each) (fieldsAt s at))
+    × (rowFrom (context b) i from (t .each) (left i (t .count) s from)
+    ≡ rowFrom (context b) 0 at (t .each) (fieldsAt s at))
     × (marks ends i from (left i (t .count) s from) ≡ true)
     × (numbersFrom i (t .each) (left i (t .count) s from) numbers ≡ numbersFrom 0 (t .each) (fieldsAt s at) numbers₀)
     × (amountsFrom i (t .each) (left i (t .count) s from) amounts ≡ amountsFrom 0 (t .each) (fieldsAt s at) amounts₀)
 
 abbrev μ-loop : tie.MeasureT-loop
-μ-loop c s at numbers₀ amounts₀ ends t from₀ i₀ numbers amounts from i = t .count - i
+μ-loop b s at numbers₀ amounts₀ ends t from₀ i₀ numbers amounts from i = t .count - i
 
 loop-holds : tie.Need-loop-holds Inv-loop μ-loop
 loop-holds c =
@@ -186,9 +183,9 @@ returns c =
     let q = end-noted (a .s .now) (l .from) (l .inv .1 b) (l .i) (a .t4 .count) b (l .inv .2) (a .ends .now) (l .inv .4) in
     let r = c .before .before .before .read in (
       c .refused .ensures
-          ∙ sym (wrong-field (a .s .now) (l .from) (l .inv .1 b) (getD (a .ends .now) (l .i) 0) q (l .i) (a .t4 .count) b (l .inv .2) (mayJoin (a .c .month) (a .c .schedule)) (a .c) (a .t4 .each) (r .result) (r .ensures) (c .before .if1 .taken))
+          ∙ sym (wrong-field (a .s .now) (l .from) (l .inv .1 b) (getD (a .ends .now) (l .i) 0) q (l .i) (a .t4 .count) b (l .inv .2) (context (a .b)) (a .t4 .each) (r .result) (r .ensures) (c .before .if1 .taken))
           ∙ l .inv .3,
-      λ z. absurd (c .before .if1 .taken (ap (λ (x : Row). x .number) (sym (c .refused .ensures)) ∙ z)),
+      λ z. absurd (c .before .if1 .taken (ap (λ (x : Row). x .fault .number) (sym (c .refused .ensures)) ∙ z)),
     )
 
 mul-numbers : tie.Need-mul-numbers Inv-loop μ-loop
@@ -230,10 +227,10 @@ loop-again c =
       omega arith,
       parts (a .s .now) (l .from) (l .inv .1 b) e q (l .i) (a .t4 .count) b (l .inv .2) .1,
       rest (a .s .now) (l .from) (l .inv .1 b) e q (l .i) (a .t4 .count) b (l .inv .2),
-      sym (read-field (a .s .now) (l .from) (l .inv .1 b) e q (l .i) (a .t4 .count) b (l .inv .2) (mayJoin (a .c .month) (a .c .schedule)) (a .c) (a .t4 .each) (r .result) (r .ensures) (c .if1 .left)) ∙ l .inv .3,
+      sym (read-field (a .s .now) (l .from) (l .inv .1 b) e q (l .i) (a .t4 .count) b (l .inv .2) (context (a .b)) (a .t4 .each) (r .result) (r .ensures) (c .if1 .left)) ∙ l .inv .3,
       noted (a .s .now) (l .from) (l .inv .1 b) e q (l .i) (a .t4 .count) b (l .inv .2) (a .ends .now) (l .inv .4) .1,
-      sym (number-noted (a .s .now) (l .from) (l .inv .1 b) e q (l .i) (a .t4 .count) b (l .inv .2) (mayJoin (a .c .month) (a .c .schedule)) (a .c) (a .t4 .each) (r .result) (r .ensures) (c .if1 .left) _) ∙ l .inv .5,
-      sym (amount-noted (a .s .now) (l .from) (l .inv .1 b) e q (l .i) (a .t4 .count) b (l .inv .2) (mayJoin (a .c .month) (a .c .schedule)) (a .c) (a .t4 .each) (r .result) (r .ensures) (c .if1 .left) _) ∙ l .inv .6,
+      sym (number-noted (a .s .now) (l .from) (l .inv .1 b) e q (l .i) (a .t4 .count) b (l .inv .2) (context (a .b)) (a .t4 .each) (r .result) (r .ensures) (c .if1 .left) _) ∙ l .inv .5,
+      sym (amount-noted (a .s .now) (l .from) (l .inv .1 b) e q (l .i) (a .t4 .count) b (l .inv .2) (context (a .b)) (a .t4 .each) (r .result) (r .ensures) (c .if1 .left) _) ∙ l .inv .6,
     )
 
 fine-requires : tie.Need-fine-requires Inv-loop μ-loop

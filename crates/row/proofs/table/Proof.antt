@@ -3,8 +3,8 @@ use Prim.Native.Nat.{ℕ}
 use mathlib.Core.List.{List}
 use mathlib.Core.Path.{ap, ap₂, _∙_}
 use native.Mathlib.Omega.{arith}
-use Rattle.row.specs.Row.{fieldsAt}
-use Rattle.row.specs.Table.{nth, rulesFrom, tableOf}
+use Rattle.line.specs.Fields.{fieldsAt, nth}
+use Rattle.row.specs.Table.{rulesFrom, tableOf}
 use borrow.Author.Needs.{needs}
 use Rattle.row.proofs.Parted.{width-of}
 use Rattle.row.proofs.table.Statement.{statement}

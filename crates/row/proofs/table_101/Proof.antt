@@ -1,4 +1,4 @@
--- The rules of 101, in nine cells.
+-- The rules of 101, in a row's cells.
 use mathlib.Core.List.{[], _∷_}
 use borrow.Author.Needs.{needs}
 use Rattle.row.proofs.table_101.Statement.{statement}
@@ -26,7 +26,7 @@ returns c =
     let r2 = c .before .before .rule3 .ensures in
     let r3 = c .before .rule4 .ensures in
     let r4 = c .rule5 .ensures in
-    λ i. record { count = 4; each = r1 i ∷ r2 i ∷ r3 i ∷ r4 i ∷ u i ∷ u i ∷ u i ∷ u i ∷ u i ∷ [] }
+    λ i. record { count = 4; each = r1 i ∷ r2 i ∷ r3 i ∷ r4 i ∷ u i ∷ u i ∷ u i ∷ u i ∷ u i ∷ u i ∷ u i ∷ u i ∷ [] }
 
 pub table-101-spec : {M : Type 1} → statement M
 table-101-spec =

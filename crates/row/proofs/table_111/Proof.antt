@@ -1,4 +1,4 @@
--- The rules of 111, in nine cells.
+-- The rules of 111, in a row's cells.
 use mathlib.Core.List.{[], _∷_}
 use borrow.Author.Needs.{needs}
 use Rattle.row.proofs.table_111.Statement.{statement}
@@ -30,7 +30,7 @@ returns c =
     let r3 = c .before .before .rule4 .ensures in
     let r4 = c .before .rule5 .ensures in
     let r5 = c .rule6 .ensures in
-    λ i. record { count = 5; each = r1 i ∷ r2 i ∷ r3 i ∷ r4 i ∷ r5 i ∷ u i ∷ u i ∷ u i ∷ u i ∷ [] }
+    λ i. record { count = 5; each = r1 i ∷ r2 i ∷ r3 i ∷ r4 i ∷ r5 i ∷ u i ∷ u i ∷ u i ∷ u i ∷ u i ∷ u i ∷ u i ∷ [] }
 
 pub table-111-spec : {M : Type 1} → statement M
 table-111-spec =

@@ -1,4 +1,4 @@
--- The rules of 181, in nine cells.
+-- The rules of 181, in a row's cells.
 use mathlib.Core.List.{[], _∷_}
 use borrow.Author.Needs.{needs}
 use Rattle.row.proofs.table_181.Statement.{statement}
@@ -34,7 +34,7 @@ returns c =
     let r4 = c .before .before .rule5 .ensures in
     let r5 = c .before .rule6 .ensures in
     let r6 = c .rule7 .ensures in
-    λ i. record { count = 6; each = r1 i ∷ r2 i ∷ r3 i ∷ r4 i ∷ r5 i ∷ r6 i ∷ u i ∷ u i ∷ u i ∷ [] }
+    λ i. record { count = 6; each = r1 i ∷ r2 i ∷ r3 i ∷ r4 i ∷ r5 i ∷ r6 i ∷ u i ∷ u i ∷ u i ∷ u i ∷ u i ∷ u i ∷ [] }
 
 pub table-181-spec : {M : Type 1} → statement M
 table-181-spec =

@@ -1,4 +1,4 @@
--- The rules of 201, in nine cells.
+-- The rules of 201, in a row's cells.
 use mathlib.Core.List.{[], _∷_}
 use borrow.Author.Needs.{needs}
 use Rattle.row.proofs.table_201.Statement.{statement}
@@ -31,18 +31,22 @@ rule-requires-8 c κs = search needs
 rule-requires-9 : tie.Need-rule-requires-9
 rule-requires-9 c κs = search needs
 
+rule-requires-10 : tie.Need-rule-requires-10
+rule-requires-10 c κs = search needs
+
 returns : tie.Need-returns
 returns c =
-    let r1 = c .before .before .before .before .before .before .before .before .rule .ensures in
-    let r2 = c .before .before .before .before .before .before .before .rule2 .ensures in
-    let r3 = c .before .before .before .before .before .before .rule3 .ensures in
-    let r4 = c .before .before .before .before .before .rule4 .ensures in
-    let r5 = c .before .before .before .before .rule5 .ensures in
-    let r6 = c .before .before .before .rule6 .ensures in
-    let r7 = c .before .before .rule7 .ensures in
-    let r8 = c .before .rule8 .ensures in
-    let r9 = c .rule9 .ensures in
-    λ i. record { count = 9; each = r1 i ∷ r2 i ∷ r3 i ∷ r4 i ∷ r5 i ∷ r6 i ∷ r7 i ∷ r8 i ∷ r9 i ∷ [] }
+    let u = c .before .before .before .before .before .before .before .before .before .rule .ensures in
+    let r1 = c .before .before .before .before .before .before .before .before .rule2 .ensures in
+    let r2 = c .before .before .before .before .before .before .before .rule3 .ensures in
+    let r3 = c .before .before .before .before .before .before .rule4 .ensures in
+    let r4 = c .before .before .before .before .before .rule5 .ensures in
+    let r5 = c .before .before .before .before .rule6 .ensures in
+    let r6 = c .before .before .before .rule7 .ensures in
+    let r7 = c .before .before .rule8 .ensures in
+    let r8 = c .before .rule9 .ensures in
+    let r9 = c .rule10 .ensures in
+    λ i. record { count = 9; each = r1 i ∷ r2 i ∷ r3 i ∷ r4 i ∷ r5 i ∷ r6 i ∷ r7 i ∷ r8 i ∷ r9 i ∷ u i ∷ u i ∷ u i ∷ [] }
 
 pub table-201-spec : {M : Type 1} → statement M
 table-201-spec =
@@ -57,4 +61,5 @@ table-201-spec =
     rule-requires-7
     rule-requires-8
     rule-requires-9
+    rule-requires-10
     returns)

@@ -1,4 +1,4 @@
--- The rules of 51, in nine cells.
+-- The rules of 51, in a row's cells.
 use mathlib.Core.List.{[], _∷_}
 use borrow.Author.Needs.{needs}
 use Rattle.row.proofs.table_51.Statement.{statement}
@@ -14,7 +14,7 @@ returns : tie.Need-returns
 returns c =
     let u = c .before .rule .ensures in
     let r1 = c .rule2 .ensures in
-    λ i. record { count = 1; each = r1 i ∷ u i ∷ u i ∷ u i ∷ u i ∷ u i ∷ u i ∷ u i ∷ u i ∷ [] }
+    λ i. record { count = 1; each = r1 i ∷ u i ∷ u i ∷ u i ∷ u i ∷ u i ∷ u i ∷ u i ∷ u i ∷ u i ∷ u i ∷ u i ∷ [] }
 
 pub table-51-spec : {M : Type 1} → statement M
 table-51-spec = tie.close (tie.spec rule-requires rule-requires-2 returns)

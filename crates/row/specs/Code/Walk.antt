@@ -6,12 +6,10 @@ use mathlib.Core.Bool.{Bool, true, cond, _&&_}
 use mathlib.Core.List.{List, [], _∷_}
 use lib.Dec.{eqb, ltb}
 use lib.ListN.{length, getD, set}
-use Rattle.supplement.specs.declared.Supplement.{Supplement}
-use Rattle.field.specs.Field.{free, required, forbidden, right, readField}
+use Rattle.field.specs.Field.{Context, free, required, forbidden, right, readField}
 use Rattle.field.specs.declared.Rule.{Rule}
-use Rattle.field.specs.declared.Sofar.{Sofar}
-use Rattle.row.specs.Table.{noRule, keptRule, rules, rulesFrom}
-use Rattle.row.specs.Row.{refusedAt, fine, numbers, amounts, ends, inNine}
+use Rattle.row.specs.Table.{wide, noRule, keptRule, rules, rulesFrom}
+use Rattle.row.specs.Row.{refusedAt, fine, numbers, amounts, ends, inCells}
 use Rattle.row.specs.declared.Row.{Row}
 
 -- Required with a kind, else forbidden.
@@ -27,11 +25,11 @@ unfoldable pub nameNeedOf : ℕ → Bool → ℕ
 nameNeedOf kind unlisted = cond unlisted required (cond (eqb kind 0x32) free required)
 
 -- The fields of a typed record from the one with i before it on, which begins at `from`.
-unfoldable pub rowFrom : (Supplement → Bool) → Sofar → ℕ → ℕ → List Rule → List (List ℕ) → Row
-rowFrom joins c i from rs [] = fine from
-rowFrom joins c i from rs (f ∷ fs) =
-    cond (eqb (readField joins c (getD rs i noRule) f .number) 0) (rowFrom joins c (i + 1) (from + length f + 1) rs fs)
-    (refusedAt (i + 1) (readField joins c (getD rs i noRule) f))
+unfoldable pub rowFrom : Context → ℕ → ℕ → List Rule → List (List ℕ) → Row
+rowFrom c i from rs [] = fine from
+rowFrom c i from rs (f ∷ fs) =
+    cond (eqb (readField c (getD rs i noRule) f .fault .number) 0) (rowFrom c (i + 1) (from + length f + 1) rs fs)
+    (refusedAt (i + 1) (readField c (getD rs i noRule) f))
 
 -- Their numbers, put into cells from the one with i before it on.
 unfoldable pub numbersFrom : ℕ → List Rule → List (List ℕ) → List ℕ → List ℕ
@@ -45,33 +43,33 @@ amountsFrom i rs (f ∷ fs) ms = amountsFrom (i + 1) rs fs (set ms i (right (get
 
 -- Two arrays take what the fields are read as, over what they held before, where none is wrong.
 abbrev pub Walked : Row → List Rule → List (List ℕ) → List ℕ → List ℕ → List ℕ → List ℕ → Type 0
-Walked w rs fs ns₀ ms₀ ns ms = w .number ≡ 0 → (ns ≡ numbersFrom 0 rs fs ns₀) × (ms ≡ amountsFrom 0 rs fs ms₀)
+Walked w rs fs ns₀ ms₀ ns ms = w .fault .number ≡ 0 → (ns ≡ numbersFrom 0 rs fs ns₀) × (ms ≡ amountsFrom 0 rs fs ms₀)
 
 -- The three arrays of a typed record, where none is wrong.
 abbrev pub Filled : ℕ → ℕ → List (List ℕ) → Row → List ℕ → List ℕ → List ℕ → Type 0
 Filled n at fs w ns ms es =
-    w .number ≡ 0 → (ns ≡ inNine (numbers (rules n fs) fs)) × (ms ≡ inNine (amounts (rules n fs) fs)) × (es ≡ inNine (ends at fs))
+    w .fault .number ≡ 0 → (ns ≡ inCells (numbers (rules n fs) fs)) × (ms ≡ inCells (amounts (rules n fs) fs)) × (es ≡ inCells (ends at fs))
 
 -- The fields of a kept record from the ith on.
-unfoldable pub keptFrom : (Supplement → Bool) → Sofar → ℕ → ℕ → List (List ℕ) → Row
-keptFrom joins c i from [] = fine from
-keptFrom joins c i from (f ∷ fs) =
-    cond (eqb (readField joins c keptRule f .number) 0) (keptFrom joins c (i + 1) (from + length f + 1) fs)
-    (refusedAt i (readField joins c keptRule f))
+unfoldable pub keptFrom : Context → ℕ → ℕ → List (List ℕ) → Row
+keptFrom c i from [] = fine from
+keptFrom c i from (f ∷ fs) =
+    cond (eqb (readField c keptRule f .fault .number) 0) (keptFrom c (i + 1) (from + length f + 1) fs)
+    (refusedAt i (readField c keptRule f))
 
 -- How many fields a record of the table has, whatever its kind and its drug code.
 unfoldable pub widthOf : ℕ → ℕ
 widthOf n = length (rulesFrom n [] [])
 
--- How many fields a line has, from the one with k before it on: 10 for any number above nine.
+-- How many fields a line has, from the one with k before it on: one more than there is room for where they are more.
 unfoldable pub cutCount : ℕ → List (List ℕ) → ℕ
 cutCount k [] = k
-cutCount k (f ∷ fs) = cond (ltb k 9) (cutCount (k + 1) fs) 10
+cutCount k (f ∷ fs) = cond (ltb k wide) (cutCount (k + 1) fs) (wide + 1)
 
--- Where they end, put into nine cells from the one with k before it on; the first of them begins at `at`.
+-- Where they end, put into a row's cells from the one with k before it on; the first of them begins at `at`.
 unfoldable pub cutEnds : ℕ → ℕ → List (List ℕ) → List ℕ → List ℕ
 cutEnds k at [] es = es
-cutEnds k at (f ∷ fs) es = cond (ltb k 9) (cutEnds (k + 1) (at + length f + 1) fs (set es k (at + length f))) es
+cutEnds k at (f ∷ fs) es = cond (ltb k wide) (cutEnds (k + 1) (at + length f + 1) fs (set es k (at + length f))) es
 
 -- The fields, of which the first begins at `at`, end at these offsets, from the ith on.
 unfoldable pub marks : List ℕ → ℕ → ℕ → List (List ℕ) → Bool
