@@ -1,14 +1,15 @@
 // The records of a prescription file, and what a record leaves for those after it.
+use cells::Fault;
 use counter::DrugSerial;
 use counter::RpNumber;
 use counter::SupplementSerial;
 use date::Date;
-use field::Sofar;
+use field::Before;
 use schedule::Schedule;
 use supplement::Supplement;
 use usage::Instruction;
 ghost use mathlib.Core.Path.{_≡_};
-ghost use Rattle.record.specs.Record.{textAt, withLast, withCode, issued, begun, supplied, drugged, start as startOf, after as afterOf};
+ghost use Rattle.record.specs.Record.{textAt, withDrug, withCode, issued, begun, supplied, start as startOf, leaves as leavesOf, numberOf, after as afterOf};
 
 // A text as its place in the file: from its first byte to the one after its last.
 pub struct Place {
@@ -86,14 +87,19 @@ pub enum Record {
     Kept(Kept),
 }
 
-// One of document 01's numbers; the offset of the record's first byte (for 20 to 22, of the byte at fault); the field, counted from 1, or 0;
-// for 29 the code's own number and place.
+// What is wrong, one of document 01's numbers, and where in the field, of a code its character, else 0; the offset of the record's first byte (for 20 to
+// 22, of the byte at fault); the field, counted from 1, or 0; for 29 the code's own number.
 pub struct Refusal {
-    pub number: u16,
+    pub fault: Fault,
     pub at: usize,
     pub field: usize,
     pub code: u16,
-    pub place: usize,
+}
+
+// What the records before leave: for the order the last one's number, and what fields need of them.
+pub struct Sofar {
+    pub last: u16,
+    pub before: Before,
 }
 
 pub enum Answer {
@@ -123,38 +129,28 @@ pub enum Passed {
 pub fn text(s: &[u8], p: Place) -> &[u8]
     ensures { λ r. ⌜ now r ≡ textAt (now (s .entry)) p ⌝ }
 {
-    let from = p.from;
-    let to = p.to;
-    if to < from {
-        return &s[0..0];
-    }
-    if s.len() < to {
-        return &s[0..0];
-    }
-    &s[from..to]
+    text::at(s, &s[0..0], p.from, p.to)
 }
 
 // ---- what a record leaves
 
 // What each kind of record leaves: the date of issue its month,
-pub fn after_issue(c: Sofar, month: u8) -> Sofar
-    ensures { λ r. ⌜ r ≡ issued c month ⌝ }
+pub fn after_issue(b: Before, month: u8) -> Before
+    ensures { λ r. ⌜ r ≡ issued month b ⌝ }
 {
-    let mut t = c;
-    t.last = 51;
+    let mut t = b;
     t.month = month;
     t.schedule = schedule::none();
     t
 }
 
 // an RP its number,
-pub fn after_rp(c: Sofar, rp: RpNumber) -> Sofar
-    ensures { λ r. ⌜ r ≡ begun c rp ⌝ }
+pub fn after_rp(b: Before, rp: RpNumber) -> Before
+    ensures { λ r. ⌜ r ≡ begun rp b ⌝ }
 {
     let drug = DrugSerial(0);
     let supplement = SupplementSerial(0);
-    let mut t = c;
-    t.last = 101;
+    let mut t = b;
     t.rp = rp;
     t.drug = drug;
     t.supplement = supplement;
@@ -173,33 +169,22 @@ fn scheduled(t: Schedule, code: SupplementCode) -> Schedule
 }
 
 // A supplement leaves its serial and its code,
-pub fn after_supplement(c: Sofar, serial: SupplementSerial, code: SupplementCode) -> Sofar
-    ensures { λ r. ⌜ r ≡ supplied c serial code ⌝ }
+pub fn after_supplement(b: Before, serial: SupplementSerial, code: SupplementCode) -> Before
+    ensures { λ r. ⌜ r ≡ supplied serial code b ⌝ }
 {
-    let before = c.schedule;
-    let mut t = c;
-    t.last = 181;
+    let before = b.schedule;
+    let mut t = b;
     t.supplement = serial;
     t.schedule = scheduled(before, code);
     t
 }
 
-// a drug its serial,
-pub fn after_drug(c: Sofar, serial: DrugSerial) -> Sofar
-    ensures { λ r. ⌜ r ≡ drugged c serial ⌝ }
+// a drug its serial.
+pub fn after_drug(b: Before, serial: DrugSerial) -> Before
+    ensures { λ r. ⌜ r ≡ withDrug serial b ⌝ }
 {
-    let mut t = c;
-    t.last = 201;
+    let mut t = b;
     t.drug = serial;
-    t
-}
-
-// and any other nothing but its number.
-pub fn after_other(c: Sofar, last: u16) -> Sofar
-    ensures { λ r. ⌜ r ≡ withLast c last ⌝ }
-{
-    let mut t = c;
-    t.last = last;
     t
 }
 
@@ -209,27 +194,52 @@ pub fn start() -> Sofar
 {
     Sofar {
         last: 0,
-        month: 0,
-        rp: RpNumber(0),
-        drug: DrugSerial(0),
-        supplement: SupplementSerial(0),
-        schedule: schedule::none(),
+        before: Before {
+            month: 0,
+            rp: RpNumber(0),
+            drug: DrugSerial(0),
+            supplement: SupplementSerial(0),
+            schedule: schedule::none(),
+        },
+    }
+}
+
+// What a record leaves for the fields of those after it.
+fn leaves(b: Before, r: Record) -> Before
+    ensures { λ t. ⌜ t ≡ leavesOf b r ⌝ }
+{
+    match r {
+        Record::Issue(x) => after_issue(b, x.date.month),
+        Record::Rp(x) => after_rp(b, x.rp),
+        Record::Usage(_) => b,
+        Record::Supplement(x) => {
+            let code = x.code;
+            after_supplement(b, x.serial, code)
+        }
+        Record::Drug(x) => after_drug(b, x.serial),
+        Record::Kept(_) => b,
+    }
+}
+
+fn number(r: Record) -> u16
+    ensures { λ n. ⌜ n ≡ numberOf r ⌝ }
+{
+    match r {
+        Record::Issue(_) => 51,
+        Record::Rp(_) => 101,
+        Record::Usage(_) => 111,
+        Record::Supplement(_) => 181,
+        Record::Drug(_) => 201,
+        Record::Kept(x) => x.number,
     }
 }
 
 // What the records up to this one leave.
-pub fn after(c: Sofar, r: Record) -> Sofar
-    ensures { λ t. ⌜ t ≡ afterOf c r ⌝ }
+pub fn after(b: Before, r: Record) -> Sofar
+    ensures { λ t. ⌜ t ≡ afterOf b r ⌝ }
 {
-    match r {
-        Record::Issue(x) => after_issue(c, x.date.month),
-        Record::Rp(x) => after_rp(c, x.rp),
-        Record::Usage(_) => after_other(c, 111),
-        Record::Supplement(x) => {
-            let code = x.code;
-            after_supplement(c, x.serial, code)
-        }
-        Record::Drug(x) => after_drug(c, x.serial),
-        Record::Kept(x) => after_other(c, x.number),
+    Sofar {
+        last: number(r),
+        before: leaves(b, r),
     }
 }

@@ -9,25 +9,25 @@ use borrow.Author.Tests.{eqb-true, eqb-false, eq-eqb, ne-eqb}
 use lib.Dec.{eqb}
 use lib.ListN.{length, getD, drop, length-append, length-drop}
 use Rattle.cells.proofs.Split.{split as cases}
-use Rattle.line.specs.Fields.{join, line}
+use Rattle.line.specs.Fields.{join, line, nth, fieldsAt}
 use Rattle.line.proofs.Laws.{join-split}
 use Rattle.date.specs.Date.{readDate}
 use Rattle.usage.specs.Usage.{readUsage}
 use Rattle.supplement.specs.Supplement.{readSupplement}
-use Rattle.supplement.specs.declared.Supplement.{Supplement}
-use Rattle.field.specs.Field.{right, readField}
+use Rattle.field.specs.Field.{Context, right, readField}
 use Rattle.field.specs.declared.Rule.{Rule}
-use Rattle.field.specs.declared.Sofar.{Sofar}
-use Rattle.row.specs.Table.{nth, typed, rules, rulesFrom, counted, noRule}
-use Rattle.row.specs.Row.{fieldsAt, fine, fieldByField, readRow, numbers, amounts, ends, zeros, inNine, numbersOf, amountsOf, endsOf}
+use Rattle.field.specs.declared.Before.{Before}
+use Rattle.row.specs.Table.{typed, rules, rulesFrom, counted, noRule}
+use Rattle.row.specs.Row.{fine, fieldByField, readRow, numbers, amounts, ends, zeros, inCells, numbersOf, amountsOf, endsOf}
 use Rattle.row.specs.declared.Row.{Row}
-use Rattle.row.proofs.Walk.{inside}
+use Rattle.line.proofs.Walk.{inside}
 use Rattle.row.proofs.Each.{as-many}
-use Rattle.record.specs.Record.{textAt, after}
-use Rattle.record_line.specs.Fields.{offset, placeOf, dateIn, usageIn, supplementIn, recordOf}
+use Rattle.record.specs.Record.{textAt, numberOf, leaves, after, dateIn, usageIn, supplementIn, recordFrom}
+use Rattle.record_line.specs.Fields.{offset, placeOf, recordOf}
 use Rattle.record_line.specs.Line.{rowRefusal, passedOf}
-use Rattle.record_line.specs.Code.Built.{firstPlace, builtOf, rowRecord, refusedLine, tookLine, fieldsLine}
+use Rattle.record_line.specs.Code.Built.{firstPlace, builtOf, rowRecord, sofar, refusedLine, tookLine, fieldsLine}
 use Rattle.record.specs.declared.Place.{Place}
+use Rattle.record.specs.declared.Sofar.{Sofar}
 use Rattle.record.specs.declared.Record.{Record}
 use Rattle.record.specs.declared.Record.the-variants.{Issue, Rp, Usage, Supplement as Supply, Drug, Kept}
 use Rattle.record.specs.declared.Answer.the-variants.{Took}
@@ -38,17 +38,17 @@ use Rattle.record_line.proofs.Cells.{number-cell, amount-cell, end-cell
 
 -- ---- a row that is right
 
-module _ (joins : Supplement → Bool) (c : Sofar) where
-  by-field : (rs : List Rule) (fs : List (List ℕ)) (k : ℕ) (w : Row) → fieldByField joins c k rs fs w .number ≡ 0 → fieldByField joins c k rs fs w ≡ w
+module _ (c : Context) where
+  by-field : (rs : List Rule) (fs : List (List ℕ)) (k : ℕ) (w : Row) → fieldByField c k rs fs w .fault .number ≡ 0 → fieldByField c k rs fs w ≡ w
   unfolding fieldByField
   by-field [] fs k w z = refl
   by-field (r ∷ rs) [] k w z = refl
   by-field (r ∷ rs) (f ∷ fs) k w z =
-      cases (eqb (readField joins c r f .number) 0) (λ e. simp e (by-field rs fs (k + 1) w (simp e at z)))
-      (λ e. absurd (eqb-false (readField joins c r f .number) 0 e (simp e at z)))
+      cases (eqb (readField c r f .fault .number) 0) (λ e. simp e (by-field rs fs (k + 1) w (simp e at z)))
+      (λ e. absurd (eqb-false (readField c r f .fault .number) 0 e (simp e at z)))
 
-  pub right-row : (n at : ℕ) (fs : List (List ℕ)) → readRow joins c n at fs .number ≡ 0 →
-      readRow joins c n at fs ≡ fine (at + length (join fs) + 1)
+  pub right-row : (n at : ℕ) (fs : List (List ℕ)) → readRow c n at fs .fault .number ≡ 0 →
+      readRow c n at fs ≡ fine (at + length (join fs) + 1)
   unfolding readRow
   right-row n at fs z =
       cases (counted n fs) (λ e. simp e (by-field (rules n fs) fs 1 (fine (at + length (join fs) + 1)) (simp e at z)))
@@ -75,30 +75,30 @@ fields-end s at h =
     omega (arith, ap length e, ap length (line-part (drop at s)), length-append l (drop (length l) (drop at s)), length-drop at s)
 
 -- where a row that is right ends
-pub row-after : (joins : Supplement → Bool) (c : Sofar) (n from : ℕ) (fs : List (List ℕ)) (w : Row) → w ≡ readRow joins c n from fs → w .number ≡ 0 →
+pub row-after : (c : Context) (n from : ℕ) (fs : List (List ℕ)) (w : Row) → w ≡ readRow c n from fs → w .fault .number ≡ 0 →
     w .after ≡ from + length (join fs) + 1
-row-after joins c n from fs w e z =
-    ap (λ (r : Row). r .after) (e ∙ right-row joins c n from fs (ap (λ (r : Row). r .number) (sym e) ∙ z))
+row-after c n from fs w e z =
+    ap (λ (r : Row). r .after) (e ∙ right-row c n from fs (ap (λ (r : Row). r .fault .number) (sym e) ∙ z))
 
 -- ---- record by record
 
-module _ (joins : Supplement → Bool) (c : Sofar) (s : List ℕ) (from : ℕ) (h : from ≤ length s) where
+module _ (c : Context) (s : List ℕ) (from : ℕ) (h : from ≤ length s) where
   abbrev fs : List (List ℕ)
   fs = fieldsAt s from
 
   -- the cells of a typed record
   abbrev ns : ℕ → List ℕ
-  ns n = inNine (numbers (rules n fs) fs)
+  ns n = inCells (numbers (rules n fs) fs)
 
   abbrev ms : ℕ → List ℕ
-  ms n = inNine (amounts (rules n fs) fs)
+  ms n = inCells (amounts (rules n fs) fs)
 
   abbrev es : List ℕ
-  es = inNine (ends from fs)
+  es = inCells (ends from fs)
 
   -- The record that was built is the record.
   abbrev Is : ℕ → Type 0
-  Is n = readRow joins c n from fs .number ≡ 0 → (to : ℕ) → builtOf n s (ns n) (ms n) es (record { from = from; to = to }) ≡ recordOf n from fs
+  Is n = readRow c n from fs .fault .number ≡ 0 → (to : ℕ) → builtOf n s (ns n) (ms n) es (record { from = from; to = to }) ≡ recordOf n from fs
 
   -- what was read of the field with k before it
   abbrev Cell : ℕ → ℕ → Type 0
@@ -108,20 +108,20 @@ module _ (joins : Supplement → Bool) (c : Sofar) (s : List ℕ) (from : ℕ) (
   abbrev placed : ℕ → Place
   placed k = record { from = from + offset k fs; to = from + offset k fs + length (getD fs k []) }
 
-  module _ (n m : ℕ) (z : readRow joins c n from fs .number ≡ 0) (l : length (rules n fs) ≡ m) where
+  module _ (n m : ℕ) (z : readRow c n from fs .fault .number ≡ 0) (l : length (rules n fs) ≡ m) where
     its : (k : ℕ) → k < m → Cell n k
-    its k i = let a = as-many joins c n from fs z in number-cell (rules n fs) fs k (omega (arith, a, l)) a
+    its k i = let a = as-many c n from fs z in number-cell (rules n fs) fs k (omega (arith, a, l)) a
 
     its-amount : (k : ℕ) → k < m → getD (ms n) k 0 ≡ right (getD (rules n fs) k noRule) (getD fs k []) .amount
-    its-amount k i = let a = as-many joins c n from fs z in amount-cell (rules n fs) fs k (omega (arith, a, l)) a
+    its-amount k i = let a = as-many c n from fs z in amount-cell (rules n fs) fs k (omega (arith, a, l)) a
 
     its-place : (k : ℕ) → 1 ≤ k → k < m → _≡_ {A = Place} (record { from = getD es (k - 1) 0 + 1; to = getD es k 0 }) (placed k)
-    its-place k o i = place-cells from fs k o (omega (arith, as-many joins c n from fs z, l))
+    its-place k o i = place-cells from fs k o (omega (arith, as-many c n from fs z, l))
 
     -- and its bytes
     bytes : (k : ℕ) → k < m → textAt s (placed k) ≡ getD fs k []
     bytes k i =
-        let a = as-many joins c n from fs z in
+        let a = as-many c n from fs z in
         let e : k + 1 - 1 ≡ k = omega arith in
         subst (λ (i : ℕ). textAt s (record { from = from + offset i fs; to = from + offset i fs + length (getD fs i []) }) ≡ getD fs i []) e
         (fields-stand s from h (k + 1) (omega (arith, a, l)))
@@ -132,16 +132,16 @@ module _ (joins : Supplement → Bool) (c : Sofar) (s : List ℕ) (from : ℕ) (
     first-bytes : 1 ≤ m → textAt s (firstPlace from es) ≡ getD fs 0 []
     unfolding offset
     first-bytes o =
-        let e : getD es 0 0 ≡ from + 0 + length (getD fs 0 []) = end-cell from fs 0 (omega (arith, as-many joins c n from fs z, l)) in
+        let e : getD es 0 0 ≡ from + 0 + length (getD fs 0 []) = end-cell from fs 0 (omega (arith, as-many c n from fs z, l)) in
         let f : from ≡ from + 0 = omega arith in
         ap₂ (λ (x y : ℕ). textAt s (record { from = x; to = y })) f e ∙ bytes 0 (omega arith)
 
   at51 : Is 51
-  unfolding builtOf recordOf rules rulesFrom typed
+  unfolding builtOf recordOf recordFrom rules rulesFrom typed
   at51 z p = let b1 = first-bytes 51 1 z refl (omega arith) in λ j. Issue (record { date = dateIn (readDate (b1 j)) })
 
   at101 : Is 101
-  unfolding builtOf recordOf rules rulesFrom typed
+  unfolding builtOf recordOf recordFrom rules rulesFrom typed
   at101 z p =
       let e : (k : ℕ) → k < 4 → Cell 101 k = its 101 4 z refl in
       let e1 = e 0 (omega arith) in
@@ -151,7 +151,7 @@ module _ (joins : Supplement → Bool) (c : Sofar) (s : List ℕ) (from : ℕ) (
       λ j. Rp (record { rp = record { 0 = e1 j }; form = e2 j; name = p3 j; quantity = e4 j })
 
   at111 : Is 111
-  unfolding builtOf recordOf rules rulesFrom typed
+  unfolding builtOf recordOf recordFrom rules rulesFrom typed
   at111 z p =
       let e : (k : ℕ) → k < 5 → Cell 111 k = its 111 5 z refl in
       let e1 = e 0 (omega arith) in
@@ -163,7 +163,7 @@ module _ (joins : Supplement → Bool) (c : Sofar) (s : List ℕ) (from : ℕ) (
       (record { rp = record { 0 = e1 j }; kind = e2 j; code = usageIn (readUsage (b3 j)); name = p4 j; times = e5 j })
 
   at181 : Is 181
-  unfolding builtOf recordOf rules rulesFrom typed
+  unfolding builtOf recordOf recordFrom rules rulesFrom typed
   at181 z p =
       let e : (k : ℕ) → k < 6 → Cell 181 k = its 181 6 z refl in
       let e1 = e 0 (omega arith) in
@@ -183,7 +183,7 @@ module _ (joins : Supplement → Bool) (c : Sofar) (s : List ℕ) (from : ℕ) (
       })
 
   at201 : Is 201
-  unfolding builtOf recordOf rules rulesFrom typed
+  unfolding builtOf recordOf recordFrom rules rulesFrom typed
   at201 z p =
       let e : (k : ℕ) → k < 9 → Cell 201 k = its 201 9 z refl in
       let e1 = e 0 (omega arith) in
@@ -212,13 +212,13 @@ module _ (joins : Supplement → Bool) (c : Sofar) (s : List ℕ) (from : ℕ) (
   Goal n = rowRecord n s from (fine (from + length (join fs) + 1)) ≡ recordOf n from fs
 
   -- one of the table's records
-  listed : (n m : ℕ) → readRow joins c n from fs .number ≡ 0 → eqb n m ≡ true → typed m ≡ true → Is m → Goal n
+  listed : (n m : ℕ) → readRow c n from fs .fault .number ≡ 0 → eqb n m ≡ true → typed m ≡ true → Is m → Goal n
   listed n m z b t i =
       let e : n ≡ m = eqb-true n m b in
-      subst Goal (sym e) (rw t (i (subst (λ (k : ℕ). readRow joins c k from fs .number ≡ 0) e z) (from + length (join fs) + 1 - 1)))
+      subst Goal (sym e) (rw t (i (subst (λ (k : ℕ). readRow c k from fs .fault .number ≡ 0) e z) (from + length (join fs) + 1 - 1)))
 
-  by-number : (n : ℕ) → readRow joins c n from fs .number ≡ 0 → Goal n
-  unfolding builtOf recordOf typed
+  by-number : (n : ℕ) → readRow c n from fs .fault .number ≡ 0 → Goal n
+  unfolding builtOf recordOf recordFrom typed
   by-number n z =
       cases (eqb n 51) (λ e. listed n 51 z e refl at51)
       (λ a.
@@ -233,46 +233,63 @@ module _ (joins : Supplement → Bool) (c : Sofar) (s : List ℕ) (from : ℕ) (
       simp (a, b, d, f, g) (ap (λ (x : ℕ). Kept (record { number = n; fields = record { from = from; to = x } })) k))))))
 
   -- A line's record from the row of its fields.
-  pub built : (n : ℕ) → readRow joins c n from fs .number ≡ 0 → rowRecord n s from (readRow joins c n from fs) ≡ recordOf n from fs
-  built n z = ap (rowRecord n s from) (right-row joins c n from fs z) ∙ by-number n z
+  pub built : (n : ℕ) → readRow c n from fs .fault .number ≡ 0 → rowRecord n s from (readRow c n from fs) ≡ recordOf n from fs
+  built n z = ap (rowRecord n s from) (right-row c n from fs z) ∙ by-number n z
 
 -- ---- the line of a row
 
+-- a record that is built has the number that it is built by
+built-number : (n : ℕ) (s ns ms es : List ℕ) (p : Place) → numberOf (builtOf n s ns ms es p) ≡ n
+unfolding builtOf recordOf recordFrom
+built-number n s ns ms es p =
+    cases (eqb n 51) (λ e. simp e (sym (eqb-true n 51 e)))
+    (λ a.
+    cases (eqb n 101) (λ e. simp (a, e) (sym (eqb-true n 101 e)))
+    (λ b.
+    cases (eqb n 111) (λ e. simp (a, b, e) (sym (eqb-true n 111 e)))
+    (λ d.
+    cases (eqb n 181) (λ e. simp (a, b, d, e) (sym (eqb-true n 181 e)))
+    (λ f. cases (eqb n 201) (λ e. simp (a, b, d, f, e) (sym (eqb-true n 201 e))) (λ e. simp (a, b, d, f, e))))))
+
 -- The row is right: the record that was built of what was noted, and what it leaves.
-module _ (c : Sofar) (n : ℕ) (s : List ℕ) (from : ℕ) (w : Row) (ns ms es : List ℕ) (p : ns ≡ numbersOf n w (fieldsAt s from) zeros)
+module _ (b : Before) (n : ℕ) (s : List ℕ) (from : ℕ) (w : Row) (ns ms es : List ℕ) (p : ns ≡ numbersOf n w (fieldsAt s from) zeros)
     (q : ms ≡ amountsOf n w (fieldsAt s from) zeros) (v : es ≡ endsOf n w from (fieldsAt s from) zeros) where
   noted-record : builtOf n s ns ms es (record { from = from; to = w .after - 1 }) ≡ rowRecord n s from w
   noted-record = λ j. builtOf n s (p j) (q j) (v j) (record { from = from; to = w .after - 1 })
 
-  pub took-line : (b : Record) → b ≡ builtOf n s ns ms es (record { from = from; to = w .after - 1 }) → (t : Sofar) →
-      t ≡ after c (builtOf n s ns ms es (record { from = from; to = w .after - 1 })) →
-      _≡_ {A = Line} (record { answer = Took b; next = w .after + 1; sofar = t }) (tookLine c n s from w)
-  took-line b e t f =
+  pub took-line : (r : Record) → r ≡ builtOf n s ns ms es (record { from = from; to = w .after - 1 }) → (t : Sofar) → t ≡ after b r →
+      _≡_ {A = Line} (record { answer = Took r; next = w .after + 1; sofar = t }) (tookLine b n s from w)
+  took-line r e t f =
       let x = e ∙ noted-record in
-      let y = f ∙ ap (after c) noted-record in
+      let y = f ∙ ap (after b) x in
       λ j. record { answer = Took (x j); next = w .after + 1; sofar = y j }
 
-  pub took-on : (t : Sofar) → t ≡ after c (builtOf n s ns ms es (record { from = from; to = w .after - 1 })) →
-      On (record { sofar = t; next = w .after + 1 }) ≡ passedOf (tookLine c n s from w)
-  took-on t f =
-      let y = f ∙ ap (after c) noted-record in
-      λ j. On (record { sofar = y j; next = w .after + 1 })
+  module _ (t : Before) (f : t ≡ leaves b (builtOf n s ns ms es (record { from = from; to = w .after - 1 }))) where
+    left-after : _≡_ {A = Sofar} (record { last = n; before = t }) (after b (rowRecord n s from w))
+    left-after =
+        let m = sym (built-number n s ns ms es (record { from = from; to = w .after - 1 })) in
+        (λ j. record { last = m j; before = f j }) ∙ ap (after b) noted-record
 
-module _ (joins : Supplement → Bool) (c : Sofar) (s : List ℕ) (at n from : ℕ) (w : Row) (e : w ≡ readRow joins c n from (fieldsAt s from)) where
-  pub right-line : w .number ≡ 0 → tookLine c n s from w ≡ fieldsLine joins c s at n from
+    pub took-on : On (record { sofar = record { last = n; before = t }; next = w .after + 1 }) ≡ passedOf (tookLine b n s from w)
+    took-on = let y = left-after in λ j. On (record { sofar = y j; next = w .after + 1 })
+
+module _ (last : ℕ) (c : Context) (s : List ℕ) (at n from : ℕ) (w : Row) (e : w ≡ readRow c n from (fieldsAt s from)) where
+  abbrev either : Bool → Line
+  either b =
+      cond b (tookLine (c .before) n s from (readRow c n from (fieldsAt s from))) (refusedLine (sofar last c) (rowRefusal at (readRow c n from (fieldsAt s from))))
+
+  pub right-line : w .fault .number ≡ 0 → tookLine (c .before) n s from w ≡ fieldsLine last c s at n from
   unfolding fieldsLine
   right-line z =
-      sym (ap (λ (b : Bool). cond b (tookLine c n s from (readRow joins c n from (fieldsAt s from))) (refusedLine c (rowRefusal at (readRow joins c n from (fieldsAt s from)))))
-      (eq-eqb (readRow joins c n from (fieldsAt s from) .number) 0 (ap (λ (r : Row). r .number) (sym e) ∙ z))
-      ∙ ap (tookLine c n s from) (sym e))
+      sym (ap either (eq-eqb (readRow c n from (fieldsAt s from) .fault .number) 0 (ap (λ (r : Row). r .fault .number) (sym e) ∙ z))
+      ∙ ap (tookLine (c .before) n s from) (sym e))
 
   -- it is not
-  pub wrong-line : (w .number ≡ 0 → ⊥) → refusedLine c (rowRefusal at w) ≡ fieldsLine joins c s at n from
+  pub wrong-line : (w .fault .number ≡ 0 → ⊥) → refusedLine (sofar last c) (rowRefusal at w) ≡ fieldsLine last c s at n from
   unfolding fieldsLine
   wrong-line z =
-      sym (ap (λ (b : Bool). cond b (tookLine c n s from (readRow joins c n from (fieldsAt s from))) (refusedLine c (rowRefusal at (readRow joins c n from (fieldsAt s from)))))
-      (ne-eqb (readRow joins c n from (fieldsAt s from) .number) 0 (λ y. z (ap (λ (r : Row). r .number) e ∙ y)))
-      ∙ ap (λ (r : Row). refusedLine c (rowRefusal at r)) (sym e))
+      sym (ap either (ne-eqb (readRow c n from (fieldsAt s from) .fault .number) 0 (λ y. z (ap (λ (r : Row). r .fault .number) e ∙ y)))
+      ∙ ap (λ (r : Row). refusedLine (sofar last c) (rowRefusal at r)) (sym e))
 
 -- The ends that were noted are within the file.
 pub ends-within : (s : List ℕ) (n from : ℕ) → from ≤ length s → (w : Row) (es : List ℕ) → es ≡ endsOf n w from (fieldsAt s from) zeros → (k : ℕ) →

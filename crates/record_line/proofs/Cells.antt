@@ -9,8 +9,8 @@ use Rattle.cells.proofs.Split.{split as cases}
 use Rattle.line.specs.Fields.{join}
 use Rattle.field.specs.Field.{right}
 use Rattle.field.specs.declared.Rule.{Rule}
-use Rattle.row.specs.Table.{noRule}
-use Rattle.row.specs.Row.{numbers, amounts, ends, zeros, inNine, noted, endsOf}
+use Rattle.row.specs.Table.{wide, noRule}
+use Rattle.row.specs.Row.{numbers, amounts, ends, zeros, inCells, noted, endsOf}
 use Rattle.row.specs.declared.Row.{Row}
 use Rattle.record_line.specs.Fields.{offset}
 use Rattle.record.specs.declared.Place.{Place}
@@ -35,10 +35,10 @@ amount-at (r ∷ rs) (f ∷ fs) (suc k) h l = let e = amount-at rs fs k (omega a
 
 -- what is read of a field stands in its cell
 module _ (rs : List Rule) (fs : List (List ℕ)) (k : ℕ) (h : k < length fs) (l : length fs ≡ length rs) where
-  pub number-cell : getD (inNine (numbers rs fs)) k 0 ≡ right (getD rs k noRule) (getD fs k []) .n
+  pub number-cell : getD (inCells (numbers rs fs)) k 0 ≡ right (getD rs k noRule) (getD fs k []) .n
   number-cell = let e = number-at rs fs k h l in List·getD-append (numbers rs fs) _ 0 k (e .1) ∙ e .0
 
-  pub amount-cell : getD (inNine (amounts rs fs)) k 0 ≡ right (getD rs k noRule) (getD fs k []) .amount
+  pub amount-cell : getD (inCells (amounts rs fs)) k 0 ≡ right (getD rs k noRule) (getD fs k []) .amount
   amount-cell = let e = amount-at rs fs k h l in List·getD-append (amounts rs fs) _ 0 k (e .1) ∙ e .0
 
 -- ---- the ends
@@ -53,7 +53,7 @@ end-at at (f ∷ fs) (suc k) h =
     let z : at + length f + 1 + offset k fs + length (getD fs k []) ≡ at + (length f + 1 + offset k fs) + length (getD fs k []) = omega arith in
     (e .0 ∙ z, omega (arith, e .1))
 
-pub end-cell : (at : ℕ) (fs : List (List ℕ)) (k : ℕ) → k < length fs → getD (inNine (ends at fs)) k 0 ≡ at + offset k fs + length (getD fs k [])
+pub end-cell : (at : ℕ) (fs : List (List ℕ)) (k : ℕ) → k < length fs → getD (inCells (ends at fs)) k 0 ≡ at + offset k fs + length (getD fs k [])
 end-cell at fs k h = let e = end-at at fs k h in List·getD-append (ends at fs) _ 0 k (e .1) ∙ e .0
 
 -- a field begins after the comma of the one before it
@@ -64,17 +64,17 @@ offset-next (f ∷ []) zero h = omega arith
 offset-next (f ∷ g ∷ fs) zero h = omega arith
 offset-next (f ∷ fs) (suc k) h = let e : offset (suc k) fs ≡ offset k fs + length (getD fs k []) + 1 = offset-next fs k (omega arith) in omega (arith, e)
 
-begin-cell : (at : ℕ) (fs : List (List ℕ)) (k : ℕ) → 1 ≤ k → k < length fs → getD (inNine (ends at fs)) (k - 1) 0 + 1 ≡ at + offset k fs
+begin-cell : (at : ℕ) (fs : List (List ℕ)) (k : ℕ) → 1 ≤ k → k < length fs → getD (inCells (ends at fs)) (k - 1) 0 + 1 ≡ at + offset k fs
 begin-cell at fs zero a h = absurd (omega arith)
 begin-cell at fs (suc k) a h =
     let z : suc k - 1 ≡ k = omega arith in
-    let e : getD (inNine (ends at fs)) (suc k - 1) 0 ≡ at + offset k fs + length (getD fs k []) =
-    ap (λ (i : ℕ). getD (inNine (ends at fs)) i 0) z ∙ end-cell at fs k (omega arith) in
+    let e : getD (inCells (ends at fs)) (suc k - 1) 0 ≡ at + offset k fs + length (getD fs k []) =
+    ap (λ (i : ℕ). getD (inCells (ends at fs)) i 0) z ∙ end-cell at fs k (omega arith) in
     omega (arith, e, offset-next fs k (omega arith))
 
 -- The place of a field after the first, by its end and that of the one before it.
 pub place-cells : (at : ℕ) (fs : List (List ℕ)) (k : ℕ) → 1 ≤ k → k < length fs →
-    _≡_ {A = Place} (record { from = getD (inNine (ends at fs)) (k - 1) 0 + 1; to = getD (inNine (ends at fs)) k 0 })
+    _≡_ {A = Place} (record { from = getD (inCells (ends at fs)) (k - 1) 0 + 1; to = getD (inCells (ends at fs)) k 0 })
     (record { from = at + offset k fs; to = at + offset k fs + length (getD fs k []) })
 place-cells at fs k a h =
     let b = begin-cell at fs k a h in
@@ -105,5 +105,5 @@ end-most at (f ∷ g ∷ fs) (suc k) =
 
 pub ends-most : (n : ℕ) (w : Row) (at : ℕ) (fs : List (List ℕ)) (k : ℕ) → getD (endsOf n w at fs zeros) k 0 ≤ at + length (join fs)
 ends-most n w at fs k =
-    cases (noted n w) (λ e. rw e (append-most (ends at fs) _ (at + length (join fs)) (end-most at fs) (λ j. zero-most (9 - length (ends at fs)) j _) k))
-    (λ e. rw e (zero-most 9 k _))
+    cases (noted n w) (λ e. rw e (append-most (ends at fs) _ (at + length (join fs)) (end-most at fs) (λ j. zero-most (wide - length (ends at fs)) j _) k))
+    (λ e. rw e (zero-most wide k _))

@@ -6,27 +6,30 @@ use mathlib.Core.Bool.{Bool, cond}
 use mathlib.Core.List.{List, []}
 use lib.Dec.{eqb}
 use lib.ListN.{length, getD, drop}
-use Rattle.line.specs.Fields.{join}
+use Rattle.line.specs.Fields.{join, fieldsAt}
 use Rattle.supplement.specs.declared.Supplement.{Supplement}
 use Rattle.order.specs.Next.{follow}
-use Rattle.field.specs.declared.Sofar.{Sofar}
-use Rattle.row.specs.Row.{fieldsAt}
+use Rattle.field.specs.Field.{judgedBy}
+use Rattle.field.specs.declared.Before.{Before}
 use Rattle.row.specs.declared.Row.{Row}
 use Rattle.row.proofs.Same.{same-row}
 use Rattle.record_line.specs.Line.{refusal, fromRow, readFields, recordNumber, readParts, lineAfter, lineAt}
 use Rattle.record.specs.declared.Answer.{Answer}
 use Rattle.record.specs.declared.Answer.the-variants.{Refused}
 
-module _ (joins joins′ : Supplement → Bool) (same : (x : Supplement) → joins x ≡ joins′ x) where
-  pub same-fields : (c : Sofar) (at n from : ℕ) (fs : List (List ℕ)) → readFields joins c at n from fs ≡ readFields joins′ c at n from fs
+module _ (joins joins′ : Supplement → Bool) (same : (x : Supplement) → joins x ≡ joins′ x) (last : ℕ) (b : Before) where
+  pub same-fields : (at n from : ℕ) (fs : List (List ℕ)) →
+      readFields last (judgedBy b joins) at n from fs ≡ readFields last (judgedBy b joins′) at n from fs
   unfolding readFields
-  same-fields c at n from fs =
-      ap (λ (w : Row). cond (eqb (follow (c .last) n) 0) (fromRow at n from fs w) (Refused (refusal (follow (c .last) n) at))) (same-row joins joins′ same c n from fs)
+  same-fields at n from fs =
+      ap (λ (w : Row). cond (eqb (follow last n) 0) (fromRow at n from fs w) (Refused (refusal (follow last n) at)))
+      (same-row joins joins′ same b n from fs)
 
-  pub same-parts : (c : Sofar) (at : ℕ) (parts : List (List ℕ)) → readParts joins c at parts ≡ readParts joins′ c at parts
+  pub same-parts : (at : ℕ) (parts : List (List ℕ)) → readParts last (judgedBy b joins) at parts ≡ readParts last (judgedBy b joins′) at parts
   unfolding readParts
-  same-parts c at parts = same-fields c at (recordNumber parts) (at + length (getD parts 0 []) + 1) (drop 1 parts)
+  same-parts at parts = same-fields at (recordNumber parts) (at + length (getD parts 0 []) + 1) (drop 1 parts)
 
-  pub same-line : (c : Sofar) (s : List ℕ) (at : ℕ) → lineAt joins c s at ≡ lineAt joins′ c s at
+  pub same-line : (s : List ℕ) (at : ℕ) → lineAt last (judgedBy b joins) s at ≡ lineAt last (judgedBy b joins′) s at
   unfolding lineAt
-  same-line c s at = ap (λ (a : Answer). lineAfter c a (at + length (join (fieldsAt s at)) + 2)) (same-parts c at (fieldsAt s at))
+  same-line s at =
+      ap (λ (a : Answer). lineAfter (record { last = last; before = b }) a (at + length (join (fieldsAt s at)) + 2)) (same-parts at (fieldsAt s at))

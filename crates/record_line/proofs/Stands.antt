@@ -10,9 +10,9 @@ use lib.Dec.{leb}
 use lib.ListN.{length, getD, take, drop, length-take, length-drop}
 use lib.Seq.{slice, take-at, take-nil, drop-at, drop-drop}
 use Rattle.cells.proofs.Split.{split as cases}
-use Rattle.line.specs.Fields.{join}
+use Rattle.line.specs.Fields.{join, nth}
 use Rattle.line.proofs.Laws.{part}
-use Rattle.row.specs.Table.{nth}
+use Rattle.text.specs.Lent.{textOr}
 use Rattle.record.specs.Record.{textAt}
 use Rattle.record_line.specs.Fields.{offset, placeOf}
 
@@ -28,7 +28,7 @@ no-bytes (b ∷ f) h = absurd (omega arith)
 
 -- bytes that stand at an offset are the text of their place
 text-at : (s f : List ℕ) (from : ℕ) → take (length f) (drop from s) ≡ f → textAt s (record { from = from; to = from + length f }) ≡ f
-unfolding textAt
+unfolding textOr
 text-at s f from e =
     rw (le-leb from (from + length f) (omega arith))
     (cases (leb (from + length f) (length s)) (λ t. rw t (sym (part-of (length f) from s) ∙ e))

@@ -1,10 +1,11 @@
 // A line of a prescription file as its record: the fields as what they are read as, and what the record leaves.
+use cells::Fault;
 use counter::DrugSerial;
 use counter::RpNumber;
 use counter::SupplementSerial;
 use date::Date;
 use date::Made;
-use field::Sofar;
+use field::Before;
 use number::Number;
 use record::Answer;
 use record::Kept;
@@ -19,35 +20,39 @@ use record::Record111;
 use record::Record181;
 use record::Record201;
 use record::Refusal;
+use record::Sofar;
 use record::SupplementCode;
 use record::UsageCode;
 use row::Row;
 ghost use mathlib.Core.Path.{_≡_};
-ghost use Prim.Native.Nat.{_+_, _≤_, _<_};
+ghost use Prim.Native.Nat.{ℕ, _+_, _≤_, _<_};
+ghost use mathlib.Core.List.{List};
 ghost use lib.ListN.{length};
 ghost use Rattle.date.specs.Date.{readDate};
 ghost use Rattle.usage.specs.Usage.{readUsage};
 ghost use Rattle.supplement.specs.Supplement.{readSupplement};
 ghost use Rattle.number.specs.Number.{readNumber};
-ghost use Rattle.schedule.specs.Kept.{mayJoin};
-ghost use Rattle.record.specs.Record.{textAt};
-ghost use Rattle.record_line.specs.Fields.{keptField, dateIn, usageIn, supplementIn};
+ghost use Rattle.field.specs.Field.{context};
+ghost use Rattle.row.specs.Table.{wide};
+ghost use Rattle.record.specs.Record.{textAt, dateIn, usageIn, supplementIn};
+ghost use Rattle.record.specs.declared.Place.{Place as At};
+ghost use Rattle.record_line.specs.Fields.{keptField};
 ghost use Rattle.record_line.specs.Line.{refusal as refusalOf, rowRefusal, numberIn, lineAt, passedOf};
-ghost use Rattle.record_line.specs.Code.Built.{Room, placeIn, firstPlace, built51, built101, built111, built181, built201, builtOf, refusedLine, fieldsLine, Heads, Leaves};
+ghost use Rattle.record_line.specs.Code.Built.{Room, placeIn, firstPlace, builtOf, refusedLine, fieldsLine, Heads, Leaves};
 
 // The nth field, counted from 1, of a record that is kept; nothing where it has fewer.
 pub fn kept_field(s: &[u8], k: Kept, n: usize) -> &[u8]
     ensures { λ r. ⌜ now r ≡ keptField (now (s .entry)) k n ⌝ }
 {
     let from = k.fields.from;
-    row::nth_field(s, from, n)
+    line::nth_field(s, from, n)
 }
 
 // ---- what the fields are read as
 
 // The place of the field with k before it, one or more, of those that end there: after the comma of the field before it.
-fn placed(ends: &[usize; 9], k: usize) -> Place
-    requires { ⌜ (1 ≤ k) × (k < 9) × Room (now ends) ⌝ }
+fn placed(ends: &[usize; row::WIDE], k: usize) -> Place
+    requires { ⌜ (1 ≤ k) × (k < wide) × Room (now ends) ⌝ }
     ensures { λ r. ⌜ r ≡ placeIn (k + 1) (now (ends .entry)) ⌝ }
 {
     Place {
@@ -57,7 +62,7 @@ fn placed(ends: &[usize; 9], k: usize) -> Place
 }
 
 // The place of the first field, which begins at `from`.
-fn placed_first(ends: &[usize; 9], from: usize) -> Place
+fn placed_first(ends: &[usize; row::WIDE], from: usize) -> Place
     ensures { λ r. ⌜ r ≡ firstPlace from (now (ends .entry)) ⌝ }
 {
     Place {
@@ -71,7 +76,7 @@ fn date_at(s: &[u8], p: Place) -> Date
 {
     match date::read(record::text(s, p)) {
         Made::Day(d) => d,
-        Made::None => Date {
+        Made::None(_) => Date {
             era: 0,
             year: 0,
             month: 0,
@@ -98,17 +103,17 @@ fn supplement_at(s: &[u8], p: Place) -> SupplementCode
     }
 }
 
-fn record_51(s: &[u8], from: usize, ends: &[usize; 9]) -> Record
-    ensures { λ r. ⌜ r ≡ built51 (now (s .entry)) from (now (ends .entry)) ⌝ }
+fn record_51(s: &[u8], from: usize, ends: &[usize; row::WIDE]) -> Record
+    ensures { λ r. ⌜ ((ns ms : List ℕ) (to : ℕ) → r ≡ builtOf 51 (now (s .entry)) ns ms (now (ends .entry)) (record { from = from; to = to })) ⌝ }
 {
     Record::Issue(Record51 {
         date: date_at(s, placed_first(ends, from)),
     })
 }
 
-fn record_101(numbers: &[u16; 9], ends: &[usize; 9]) -> Record
+fn record_101(numbers: &[u16; row::WIDE], ends: &[usize; row::WIDE]) -> Record
     requires { ⌜ Room (now ends) ⌝ }
-    ensures { λ r. ⌜ r ≡ built101 (now (numbers .entry)) (now (ends .entry)) ⌝ }
+    ensures { λ r. ⌜ ((s ms : List ℕ) (p : At) → r ≡ builtOf 101 s (now (numbers .entry)) ms (now (ends .entry)) p) ⌝ }
 {
     Record::Rp(Record101 {
         rp: RpNumber(numbers[0]),
@@ -118,9 +123,9 @@ fn record_101(numbers: &[u16; 9], ends: &[usize; 9]) -> Record
     })
 }
 
-fn record_111(s: &[u8], numbers: &[u16; 9], ends: &[usize; 9]) -> Record
+fn record_111(s: &[u8], numbers: &[u16; row::WIDE], ends: &[usize; row::WIDE]) -> Record
     requires { ⌜ Room (now ends) ⌝ }
-    ensures { λ r. ⌜ r ≡ built111 (now (s .entry)) (now (numbers .entry)) (now (ends .entry)) ⌝ }
+    ensures { λ r. ⌜ ((ms : List ℕ) (p : At) → r ≡ builtOf 111 (now (s .entry)) (now (numbers .entry)) ms (now (ends .entry)) p) ⌝ }
 {
     Record::Usage(Record111 {
         rp: RpNumber(numbers[0]),
@@ -131,9 +136,9 @@ fn record_111(s: &[u8], numbers: &[u16; 9], ends: &[usize; 9]) -> Record
     })
 }
 
-fn record_181(s: &[u8], numbers: &[u16; 9], ends: &[usize; 9]) -> Record
+fn record_181(s: &[u8], numbers: &[u16; row::WIDE], ends: &[usize; row::WIDE]) -> Record
     requires { ⌜ Room (now ends) ⌝ }
-    ensures { λ r. ⌜ r ≡ built181 (now (s .entry)) (now (numbers .entry)) (now (ends .entry)) ⌝ }
+    ensures { λ r. ⌜ ((ms : List ℕ) (p : At) → r ≡ builtOf 181 (now (s .entry)) (now (numbers .entry)) ms (now (ends .entry)) p) ⌝ }
 {
     Record::Supplement(Record181 {
         rp: RpNumber(numbers[0]),
@@ -145,9 +150,13 @@ fn record_181(s: &[u8], numbers: &[u16; 9], ends: &[usize; 9]) -> Record
     })
 }
 
-fn record_201(numbers: &[u16; 9], amounts: &[u64; 9], ends: &[usize; 9]) -> Record
+fn record_201(
+    numbers: &[u16; row::WIDE],
+    amounts: &[u64; row::WIDE],
+    ends: &[usize; row::WIDE],
+) -> Record
     requires { ⌜ Room (now ends) ⌝ }
-    ensures { λ r. ⌜ r ≡ built201 (now (numbers .entry)) (now (amounts .entry)) (now (ends .entry)) ⌝ }
+    ensures { λ r. ⌜ ((s : List ℕ) (p : At) → r ≡ builtOf 201 s (now (numbers .entry)) (now (amounts .entry)) (now (ends .entry)) p) ⌝ }
 {
     Record::Drug(Record201 {
         rp: RpNumber(numbers[0]),
@@ -166,9 +175,9 @@ fn record_201(numbers: &[u16; 9], amounts: &[u64; 9], ends: &[usize; 9]) -> Reco
 fn record_of(
     n: u16,
     s: &[u8],
-    numbers: &[u16; 9],
-    amounts: &[u64; 9],
-    ends: &[usize; 9],
+    numbers: &[u16; row::WIDE],
+    amounts: &[u64; row::WIDE],
+    ends: &[usize; row::WIDE],
     fields: Place,
 ) -> Record
     requires { ⌜ Room (now ends) ⌝ }
@@ -196,28 +205,35 @@ fn record_of(
 }
 
 // What the record of a number and what its fields are read as leaves, told without the record; the first field begins at `from`.
-fn left(c: Sofar, n: u16, s: &[u8], from: usize, numbers: &[u16; 9], ends: &[usize; 9]) -> Sofar
+fn left(
+    b: Before,
+    n: u16,
+    s: &[u8],
+    from: usize,
+    numbers: &[u16; row::WIDE],
+    ends: &[usize; row::WIDE],
+) -> Before
     requires { ⌜ Room (now ends) ⌝ }
-    ensures { λ r. ⌜ Leaves c n (now (s .entry)) from (now (numbers .entry)) (now (ends .entry)) r ⌝ }
+    ensures { λ r. ⌜ Leaves b n (now (s .entry)) from (now (numbers .entry)) (now (ends .entry)) r ⌝ }
 {
     if n == 51 {
         let date = date_at(s, placed_first(ends, from));
-        return record::after_issue(c, date.month);
+        return record::after_issue(b, date.month);
     }
     if n == 101 {
-        return record::after_rp(c, RpNumber(numbers[0]));
+        return record::after_rp(b, RpNumber(numbers[0]));
     }
     if n == 181 {
         return record::after_supplement(
-            c,
+            b,
             SupplementSerial(numbers[1]),
             supplement_at(s, placed(ends, 4)),
         );
     }
     if n == 201 {
-        return record::after_drug(c, DrugSerial(numbers[1]));
+        return record::after_drug(b, DrugSerial(numbers[1]));
     }
-    record::after_other(c, n)
+    b
 }
 
 // ---- lines
@@ -227,11 +243,13 @@ fn refused_at(number: u16, at: usize) -> Refusal
     ensures { λ r. ⌜ r ≡ refusalOf number at ⌝ }
 {
     Refusal {
-        number: number,
+        fault: Fault {
+            number: number,
+            place: 0,
+        },
         at: at,
         field: 0,
         code: 0,
-        place: 0,
     }
 }
 
@@ -239,12 +257,12 @@ fn refused_at(number: u16, at: usize) -> Refusal
 fn refused_fields(at: usize, w: Row) -> Refusal
     ensures { λ r. ⌜ r ≡ rowRefusal at w ⌝ }
 {
+    let fault = w.fault;
     Refusal {
-        number: w.number,
+        fault: fault,
         at: at,
         field: w.field,
         code: w.code,
-        place: w.place,
     }
 }
 
@@ -264,7 +282,7 @@ fn record_number(f: &[u8]) -> u16
 {
     match number::read(f, 1, 999) {
         Number::Is(n) => (n % 65536) as u16,
-        Number::Not => 0,
+        Number::Not(_) => 0,
     }
 }
 
@@ -298,7 +316,7 @@ fn read_head(last: u16, s: &[u8], at: usize) -> Head
     if verdict != 0 {
         return head_with(verdict, 0, 0);
     }
-    if row::line_ends(s, end) {
+    if line::line_ends(s, end) {
         return head_with(25, 0, 0);
     }
     head_with(0, n, end + 1)
@@ -307,29 +325,30 @@ fn read_head(last: u16, s: &[u8], at: usize) -> Head
 // The fields of the record at a place, of which the first begins at `from`, where they are right.
 fn read_fields(c: Sofar, s: &[u8], at: usize, n: u16, from: usize) -> Line
     requires { ⌜ from ≤ length (now s) ⌝ }
-    ensures { λ r. ⌜ r ≡ fieldsLine (mayJoin (c .month) (c .schedule)) c (now (s .entry)) at n from ⌝ }
+    ensures { λ r. ⌜ r ≡ fieldsLine (c .last) (context (c .before)) (now (s .entry)) at n from ⌝ }
 {
-    let mut numbers = [0; 9];
-    let mut amounts = [0; 9];
-    let mut ends = [0; 9];
-    let w = row::read(c, s, n, from, &mut numbers, &mut amounts, &mut ends);
-    if w.number != 0 {
+    let mut numbers = [0; row::WIDE];
+    let mut amounts = [0; row::WIDE];
+    let mut ends = [0; row::WIDE];
+    let w = row::read(c.before, s, n, from, &mut numbers, &mut amounts, &mut ends);
+    if w.fault.number != 0 {
         return refused_line(c, refused_fields(at, w));
     }
     let fields = Place {
         from: from,
         to: w.after - 1,
     };
+    let r = record_of(n, s, &numbers, &amounts, &ends, fields);
     Line {
-        answer: Answer::Took(record_of(n, s, &numbers, &amounts, &ends, fields)),
+        answer: Answer::Took(r),
         next: w.after + 1,
-        sofar: left(c, n, s, from, &numbers, &ends),
+        sofar: record::after(c.before, r),
     }
 }
 
 // Reads the line at a place of the file, after what the records before leave.
 pub fn read(c: Sofar, s: &[u8], at: usize) -> Line
-    ensures { λ r. ⌜ r ≡ lineAt (mayJoin (c .month) (c .schedule)) c (now (s .entry)) at ⌝ }
+    ensures { λ r. ⌜ r ≡ lineAt (c .last) (context (c .before)) (now (s .entry)) at ⌝ }
 {
     let h = read_head(c.last, s, at);
     if h.refusal != 0 {
@@ -340,24 +359,27 @@ pub fn read(c: Sofar, s: &[u8], at: usize) -> Line
 
 fn pass_fields(c: Sofar, s: &[u8], at: usize, n: u16, from: usize) -> Passed
     requires { ⌜ from ≤ length (now s) ⌝ }
-    ensures { λ r. ⌜ r ≡ passedOf (fieldsLine (mayJoin (c .month) (c .schedule)) c (now (s .entry)) at n from) ⌝ }
+    ensures { λ r. ⌜ r ≡ passedOf (fieldsLine (c .last) (context (c .before)) (now (s .entry)) at n from) ⌝ }
 {
-    let mut numbers = [0; 9];
-    let mut amounts = [0; 9];
-    let mut ends = [0; 9];
-    let w = row::read(c, s, n, from, &mut numbers, &mut amounts, &mut ends);
-    if w.number != 0 {
+    let mut numbers = [0; row::WIDE];
+    let mut amounts = [0; row::WIDE];
+    let mut ends = [0; row::WIDE];
+    let w = row::read(c.before, s, n, from, &mut numbers, &mut amounts, &mut ends);
+    if w.fault.number != 0 {
         return Passed::Refused(refused_fields(at, w));
     }
     Passed::On(Onward {
-        sofar: left(c, n, s, from, &numbers, &ends),
+        sofar: Sofar {
+            last: n,
+            before: left(c.before, n, s, from, &numbers, &ends),
+        },
         next: w.after + 1,
     })
 }
 
 // Passes the line at a place of the file: what reading it and its record leave.
 pub fn pass(c: Sofar, s: &[u8], at: usize) -> Passed
-    ensures { λ r. ⌜ r ≡ passedOf (lineAt (mayJoin (c .month) (c .schedule)) c (now (s .entry)) at) ⌝ }
+    ensures { λ r. ⌜ r ≡ passedOf (lineAt (c .last) (context (c .before)) (now (s .entry)) at) ⌝ }
 {
     let h = read_head(c.last, s, at);
     if h.refusal != 0 {

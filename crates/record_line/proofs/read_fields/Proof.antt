@@ -4,9 +4,8 @@ use Prim.Native.Nat.{_+_, _-_, _<_, _^_}
 use mathlib.Core.Path.{_≡_, ap, _∙_}
 use native.Mathlib.Omega.{arith}
 use lib.ListN.{length, getD}
-use Rattle.line.specs.Fields.{join}
-use Rattle.row.specs.Row.{fieldsAt}
-use Rattle.schedule.specs.Kept.{mayJoin}
+use Rattle.line.specs.Fields.{join, fieldsAt}
+use Rattle.field.specs.Field.{context}
 use Rattle.record_line.specs.Code.Built.{refusedLine}
 use Rattle.record_line.proofs.Built.{row-after, fields-end, ends-within, took-line, right-line, wrong-line}
 use Rattle.record_line.proofs.read_fields.Statement.{statement}
@@ -27,14 +26,14 @@ returns c =
     let r = c .before .before .before .before .read in
     c .refused-line .ensures
     ∙ ap (refusedLine (a .c)) (c .before .refused-fields .ensures)
-    ∙ wrong-line (mayJoin (a .c .month) (a .c .schedule)) (a .c) (a .s .now) (a .at) (a .n) (a .from) (r .result) (r .ensures .0) (c .before .before .if1 .taken)
+    ∙ wrong-line (a .c .last) (context (a .c .before)) (a .s .now) (a .at) (a .n) (a .from) (r .result) (r .ensures .0) (c .before .before .if1 .taken)
 
-sub-t16 : tie.Need-sub-t16
-sub-t16 c =
+sub-t17 : tie.Need-sub-t17
+sub-t17 c =
     let a = c .before .before .before .before .before .before .before .before .args in
     let r = c .before .before .before .read in
     let k : c .before .before .before .read .result .after ≡ a .from + length (join (fieldsAt (a .s .now) (a .from))) + 1 =
-    row-after (mayJoin (a .c .month) (a .c .schedule)) (a .c) (a .n) (a .from) (fieldsAt (a .s .now) (a .from)) (r .result) (r .ensures .0) (c .before .if1 .left) in
+    row-after (context (a .c .before)) (a .n) (a .from) (fieldsAt (a .s .now) (a .from)) (r .result) (r .ensures .0) (c .before .if1 .left) in
     omega (arith, k)
 
 record-of-requires : tie.Need-record-of-requires
@@ -46,30 +45,24 @@ record-of-requires c κs =
     omega (arith, c .before .before .before .before .before .before .before .before .before .before .before .good .1 .0, ends-within (a .s .now) (a .n) (a .from) (c .before .before .before .before .before .before .before .before .before .before .before .pre) (r .result) (c .before .before .before .before .before .before .read .last .1 .1 .1 .1 .1 .1 .0) (r .ensures .3) k) in
     m
 
-add-t16 : tie.Need-add-t16
-add-t16 c =
+add-t17 : tie.Need-add-t17
+add-t17 c =
     let a = c .before .before .before .before .before .before .before .before .before .before .before .before .before .args in
     let r = c .before .before .before .before .before .before .before .before .read in
     let k : c .before .before .before .before .before .before .before .before .read .result .after ≡ a .from + length (join (fieldsAt (a .s .now) (a .from))) + 1 =
-    row-after (mayJoin (a .c .month) (a .c .schedule)) (a .c) (a .n) (a .from) (fieldsAt (a .s .now) (a .from)) (r .result) (r .ensures .0) (c .before .before .before .before .before .before .if1 .left) in
+    row-after (context (a .c .before)) (a .n) (a .from) (fieldsAt (a .s .now) (a .from)) (r .result) (r .ensures .0) (c .before .before .before .before .before .before .if1 .left) in
     omega (arith, k, c .before .before .before .before .before .before .before .before .before .before .before .before .before .good .1 .0, fields-end (a .s .now) (a .from) (c .before .before .before .before .before .before .before .before .before .before .before .before .before .pre))
 
-left-requires : tie.Need-left-requires
-left-requires c κs =
-    let a = c .before .before .before .before .before .before .before .before .before .before .before .before .before .before .before .args in
-    let r = c .before .before .before .before .before .before .before .before .before .before .read in
-    λ k.
-    let m : getD (c .before .before .before .before .before .before .before .before .before .before .read .last .1 .1 .1 .1 .1 .1 .0) k 0 + 1 < 2 ^ 64 =
-    omega (arith, c .before .before .before .before .before .before .before .before .before .before .before .before .before .before .before .good .1 .0, ends-within (a .s .now) (a .n) (a .from) (c .before .before .before .before .before .before .before .before .before .before .before .before .before .before .before .pre) (r .result) (c .before .before .before .before .before .before .before .before .before .before .read .last .1 .1 .1 .1 .1 .1 .0) (r .ensures .3) k) in
-    m
+after-requires : tie.Need-after-requires
+after-requires c κs = search needs
 
 returns-2 : tie.Need-returns-2
 returns-2 c =
-    let a = c .before .before .before .before .before .before .before .before .before .before .before .before .before .before .before .before .args in
-    let r = c .before .before .before .before .before .before .before .before .before .before .before .read in
-    took-line (a .c) (a .n) (a .s .now) (a .from) (r .result) _ _ _ (r .ensures .1) (r .ensures .2) (r .ensures .3) _ (c .before .before .before .before .record-of .ensures) _
-    (c .left .ensures _ (r .result .after - 1))
-    ∙ right-line (mayJoin (a .c .month) (a .c .schedule)) (a .c) (a .s .now) (a .at) (a .n) (a .from) (r .result) (r .ensures .0) (c .before .before .before .before .before .before .before .before .before .if1 .left)
+    let a = c .before .before .before .before .before .before .before .before .before .before .before .before .before .before .args in
+    let r = c .before .before .before .before .before .before .before .before .before .read in
+    took-line (a .c .before) (a .n) (a .s .now) (a .from) (r .result) _ _ _ (r .ensures .1) (r .ensures .2) (r .ensures .3) _
+    (c .before .before .record-of .ensures) _ (c .after .ensures)
+    ∙ right-line (a .c .last) (context (a .c .before)) (a .s .now) (a .at) (a .n) (a .from) (r .result) (r .ensures .0) (c .before .before .before .before .before .before .before .if1 .left)
 
 pub read-fields-spec : {M : Type 1} → statement M
 read-fields-spec =
@@ -79,8 +72,8 @@ read-fields-spec =
     refused-fields-requires
     refused-line-requires
     returns
-    sub-t16
+    sub-t17
     record-of-requires
-    add-t16
-    left-requires
+    add-t17
+    after-requires
     returns-2)

@@ -7,7 +7,7 @@ use lib.ListN.{length}
 use lib.Seq.{slice}
 use Rattle.line.proofs.Laws.{part}
 use Rattle.number.specs.Number.{readNumber}
-use Rattle.row.proofs.Walk.{after-start, before-end, more-fit}
+use Rattle.line.proofs.Walk.{after-start, before-end, more-fit}
 use Rattle.record_line.specs.Line.{numberIn}
 use Rattle.record_line.specs.Code.Built.{Heads}
 use Rattle.record_line.proofs.Whole.{head-nowhere, head-refused, head-bare, head-fields}

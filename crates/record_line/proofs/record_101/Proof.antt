@@ -1,5 +1,7 @@
 -- From the cells by their places.
 use borrow.Author.Needs.{needs}
+use Rattle.record.specs.Record.{recordFrom}
+use Rattle.record_line.specs.Code.Built.{builtOf}
 use Rattle.record_line.proofs.record_101.Statement.{statement}
 use Rattle.record_line.proofs.record_101.Tie as tie
 
@@ -16,7 +18,8 @@ element-copy-out-t13 : tie.Need-element-copy-out-t13
 element-copy-out-t13 c = search needs
 
 returns : tie.Need-returns
-returns c = rw (c .before .placed .ensures)
+unfolding builtOf recordFrom
+returns c s ms p = rw (c .before .placed .ensures)
 
 pub record-101-spec : {M : Type 1} → statement M
 record-101-spec =

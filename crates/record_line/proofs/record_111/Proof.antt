@@ -1,5 +1,7 @@
 -- From the cells by their places.
 use borrow.Author.Needs.{needs}
+use Rattle.record.specs.Record.{recordFrom}
+use Rattle.record_line.specs.Code.Built.{builtOf}
 use Rattle.record_line.proofs.record_111.Statement.{statement}
 use Rattle.record_line.proofs.record_111.Tie as tie
 
@@ -22,7 +24,8 @@ element-copy-out-t16 : tie.Need-element-copy-out-t16
 element-copy-out-t16 c = search needs
 
 returns : tie.Need-returns
-returns c = rw (c .before .before .usage-at .ensures, c .before .before .before .placed .ensures, c .before .placed2 .ensures)
+unfolding builtOf recordFrom
+returns c ms p = rw (c .before .before .usage-at .ensures, c .before .before .before .placed .ensures, c .before .placed2 .ensures)
 
 pub record-111-spec : {M : Type 1} → statement M
 record-111-spec =

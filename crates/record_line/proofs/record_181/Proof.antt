@@ -1,5 +1,7 @@
 -- From the cells by their places.
 use borrow.Author.Needs.{needs}
+use Rattle.record.specs.Record.{recordFrom}
+use Rattle.record_line.specs.Code.Built.{builtOf}
 use Rattle.record_line.proofs.record_181.Statement.{statement}
 use Rattle.record_line.proofs.record_181.Tie as tie
 
@@ -25,7 +27,8 @@ placed-requires-3 : tie.Need-placed-requires-3
 placed-requires-3 c κs = search needs
 
 returns : tie.Need-returns
-returns c = rw (c .before .supplement-at .ensures, c .before .before .before .placed .ensures, c .before .before .placed2 .ensures, c .placed3 .ensures)
+unfolding builtOf recordFrom
+returns c ms p = rw (c .before .supplement-at .ensures, c .before .before .before .placed .ensures, c .before .before .placed2 .ensures, c .placed3 .ensures)
 
 pub record-181-spec : {M : Type 1} → statement M
 record-181-spec =

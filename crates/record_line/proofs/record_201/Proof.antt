@@ -1,5 +1,7 @@
 -- From the cells by their places.
 use borrow.Author.Needs.{needs}
+use Rattle.record.specs.Record.{recordFrom}
+use Rattle.record_line.specs.Code.Built.{builtOf}
 use Rattle.record_line.proofs.record_201.Statement.{statement}
 use Rattle.record_line.proofs.record_201.Tie as tie
 
@@ -31,7 +33,8 @@ placed-requires-3 : tie.Need-placed-requires-3
 placed-requires-3 c κs = search needs
 
 returns : tie.Need-returns
-returns c = rw (c .before .before .before .before .placed .ensures, c .before .before .before .placed2 .ensures, c .placed3 .ensures)
+unfolding builtOf recordFrom
+returns c s p = rw (c .before .before .before .before .placed .ensures, c .before .before .before .placed2 .ensures, c .placed3 .ensures)
 
 pub record-201-spec : {M : Type 1} → statement M
 record-201-spec =
