@@ -11,14 +11,14 @@ use lib.ListN.{length, drop}
 use Rattle.cells.proofs.Split.{split as cases}
 use Rattle.cells.proofs.Alike.{and-left, and-right}
 use Rattle.line.specs.Frame.{plainLine, plainLines, file}
-use Rattle.line.specs.Fields.{split, join}
+use Rattle.line.specs.Fields.{split, join, fieldsAt}
 use Rattle.line.proofs.Laws.{join-split}
 use Rattle.supplement.specs.declared.Supplement.{Supplement}
 use Rattle.order.specs.Next.{closes}
 use Rattle.schedule.specs.Schedule.{list}
 use Rattle.schedule.specs.Kept.{mayJoin}
 use Rattle.schedule.proofs.Laws.{nothing-kept, decides}
-use Rattle.row.specs.Row.{fieldsAt}
+use Rattle.field.specs.Field.{context}
 use Rattle.record.specs.Record.{start, after, supplements}
 use Rattle.record_line.specs.Line.{refusal, readParts, lineAfter, lineAt}
 use Rattle.record.specs.declared.Record.{Record}
@@ -26,9 +26,9 @@ use Rattle.record.specs.declared.Refusal.{Refusal}
 use Rattle.record.specs.declared.Answer.{Answer}
 use Rattle.record.specs.declared.Answer.the-variants.{Took, Refused}
 use Rattle.record_line.proofs.Same.{same-parts}
-use Rattle.record_line.proofs.Leaves.{Keeps, leaves}
+use Rattle.record_line.proofs.Leaves.{Keeps, keeps-on}
 use Rattle.reader.specs.Open.{fileFault}
-use Rattle.reader.specs.File.{File, Ending, whole, stopped, ended, before, on as upon, readLines, readFile}
+use Rattle.reader.specs.File.{File, Ending, whole, stopped, ended, before, on as upon, inList, readLines, readFile}
 use Rattle.reader.specs.Reader.{openFile, endAt, saidAgain, closing, on, nextRecord, call, endingOf}
 use Rattle.reader.specs.declared.State.{State}
 use Rattle.reader.specs.Said.{Next, Hands, Refuses, End, Turn}
@@ -39,12 +39,12 @@ abbrev pub stays : State → Next → Turn
 stays t a = record { next = a; state = t }
 
 abbrev pub goes : State → Record → ℕ → Turn
-goes t r next = record { next = Hands r; state = record { number = 0; at = next; sofar = after (t .sofar) r } }
+goes t r next = record { next = Hands r; state = record { number = 0; at = next; sofar = after (t .sofar .before) r } }
 
 -- ---- one call, on any bytes and in any state
 module _ (s : List ℕ) (t : State) where
-  abbrev joinsOf : Supplement → Bool
-  joinsOf = mayJoin (t .sofar .month) (t .sofar .schedule)
+  abbrev line-here : Answer
+  line-here = readParts (t .sofar .last) (context (t .sofar .before)) (t .at) (fieldsAt s (t .at))
 
   -- a reader that is not refused, at the end and at a line
   at-close : t .number ≡ 0 → endAt s (t .at) ≡ true → nextRecord s t ≡ closing t
@@ -56,11 +56,11 @@ module _ (s : List ℕ) (t : State) where
   on-answer (Refused f) n = refl
 
   at-line : t .number ≡ 0 → endAt s (t .at) ≡ false →
-      nextRecord s t ≡ on t (readParts joinsOf (t .sofar) (t .at) (fieldsAt s (t .at))) (t .at + length (join (fieldsAt s (t .at))) + 2)
+      nextRecord s t ≡ on t line-here (t .at + length (join (fieldsAt s (t .at))) + 2)
   unfolding nextRecord lineAt
   at-line z e =
       simp (eq-eqb _ _ z, e)
-      (on-answer (readParts joinsOf (t .sofar) (t .at) (fieldsAt s (t .at))) (t .at + length (join (fieldsAt s (t .at))) + 2))
+      (on-answer line-here (t .at + length (join (fieldsAt s (t .at))) + 2))
 
   refused-before : eqb (t .number) 0 ≡ false → nextRecord s t ≡ stays t (Refuses (refusal (saidAgain (t .number)) (t .at)))
   unfolding nextRecord
@@ -74,16 +74,16 @@ module _ (s : List ℕ) (t : State) where
   by-call {P = P} f g h =
       cases (eqb (t .number) 0)
       (λ z. cases (endAt s (t .at)) (λ e. ending (eqb-true _ _ z) e (closes (t .sofar .last)) refl (at-close (eqb-true _ _ z) e))
-      (λ e. answering (eqb-true _ _ z) (readParts joinsOf (t .sofar) (t .at) (fieldsAt s (t .at))) refl (at-line (eqb-true _ _ z) e)))
+      (λ e. answering (eqb-true _ _ z) line-here refl (at-line (eqb-true _ _ z) e)))
       (λ z. f _ (refused-before z))
     where
       ending : t .number ≡ 0 → endAt s (t .at) ≡ true → (b : Bool) → closes (t .sofar .last) ≡ b → nextRecord s t ≡ closing t → P
       ending z i true e k = g z i e (k ∙ simp e)
       ending z i false e k = f (refusal 32 (t .at)) (k ∙ simp e)
 
-      answering : t .number ≡ 0 → (a : Answer) → readParts joinsOf (t .sofar) (t .at) (fieldsAt s (t .at)) ≡ a →
+      answering : t .number ≡ 0 → (a : Answer) → line-here ≡ a →
           nextRecord s t ≡ on t a (t .at + length (join (fieldsAt s (t .at))) + 2) → P
-      answering z (Took r) e k = h r _ z (took-inside s (t .at) joinsOf (t .sofar) r e) (omega arith) k
+      answering z (Took r) e k = h r _ z (took-inside s (t .at) (t .sofar .last) (context (t .sofar .before)) r e) (omega arith) k
       answering z (Refused q) e k = f q k
 
   -- a call that stays is answered so ever after
@@ -102,12 +102,12 @@ pub record Along (s : List ℕ) (t : State) (ls : List (List ℕ)) (xs : List Su
   pub number : t .number ≡ 0
   pub place : drop (t .at) s ≡ file ls
   pub plain : plainLines ls ≡ true
-  pub keeps : Keeps (t .sofar) xs
+  pub keeps : Keeps (t .sofar .before) xs
 
 module _ (s : List ℕ) (t : State) (l : List ℕ) (ls : List (List ℕ)) (xs : List Supplement) (a : Along s t (l ∷ ls) xs) where
   -- what the line is read as
   abbrev answer : Answer
-  answer = readParts (λ x. list (t .sofar .month) (xs ++ (x ∷ []))) (t .sofar) (t .at) (split l)
+  answer = readParts (t .sofar .last) (inList (t .sofar .before) xs) (t .at) (split l)
 
   plain-line : plainLine l ≡ true
   unfolding plainLines
@@ -118,14 +118,14 @@ module _ (s : List ℕ) (t : State) (l : List ℕ) (ls : List (List ℕ)) (xs : 
   here = a .place
 
   -- what is kept decides what the RP's list says
-  alike : (x : Supplement) → mayJoin (t .sofar .month) (t .sofar .schedule) x ≡ list (t .sofar .month) (xs ++ (x ∷ []))
-  alike x = rw (a .keeps .keeps) (decides (t .sofar .month) xs x (a .keeps .listed))
+  alike : (x : Supplement) → mayJoin (t .sofar .before .month) (t .sofar .before .schedule) x ≡ list (t .sofar .before .month) (xs ++ (x ∷ []))
+  alike x = rw (a .keeps .keeps) (decides (t .sofar .before .month) xs x (a .keeps .listed))
 
   line-step : nextRecord s t ≡ on t answer (t .at + length l + 2)
   line-step =
       let e : fieldsAt s (t .at) ≡ split l = line-fields s (t .at) l (0x0a ∷ file ls) here plain-line in
       at-line s t (a .number) (no-end s (t .at) l (0x0a ∷ file ls) here plain-line)
-      ∙ rw (e, join-split l) (ap (λ (w : Answer). on t w (t .at + length l + 2)) (same-parts _ _ alike (t .sofar) (t .at) (split l)))
+      ∙ rw (e, join-split l) (ap (λ (w : Answer). on t w (t .at + length l + 2)) (same-parts _ _ alike (t .sofar .last) (t .sofar .before) (t .at) (split l)))
 
   -- after a record that is taken, the other lines
   line-after : (r : Record) → answer ≡ Took r → Along s (goes t r (t .at + length l + 2) .state) ls (supplements xs r)
@@ -135,7 +135,7 @@ module _ (s : List ℕ) (t : State) (l : List ℕ) (ls : List (List ℕ)) (xs : 
         number = refl;
         place = after-line s (t .at) l ls (a .place);
         plain = and-right (plainLine l) _ (a .plain);
-        keeps = leaves (t .sofar) xs (a .keeps) (λ x. list (t .sofar .month) (xs ++ (x ∷ []))) (λ x. refl) (t .at) (split l) r h;
+        keeps = keeps-on (t .sofar .before) xs (a .keeps) (λ x. list (t .sofar .before .month) (xs ++ (x ∷ []))) (λ x. refl) (t .sofar .last) (t .at) (split l) r h;
       }
 
 -- ---- what is left of a file
@@ -162,7 +162,7 @@ module _ (s : List ℕ) (t : State) (f : File) {P : Type 0}
       m = t .at + length l + 2
 
       others : Record → File
-      others r = readLines m (after (t .sofar) r) (supplements xs r) ls
+      others r = readLines m (after (t .sofar .before) r) (supplements xs r) ls
 
       by : (w : Answer) → answer s t l ls xs a ≡ w → P
       by (Took r) e =

@@ -17,13 +17,13 @@ use Rattle.record.specs.declared.Refusal.{Refusal}
 use Rattle.record.specs.declared.Answer.{Answer}
 use Rattle.record.specs.declared.Answer.the-variants.{Took, Refused as Stops}
 use Rattle.record_line.specs.Line.{readParts, lineAfter, lineAt, passedOf}
-use Rattle.row.specs.Row.{fieldsAt}
-use Rattle.line.specs.Fields.{join}
+use Rattle.line.specs.Fields.{join, fieldsAt}
 use Rattle.record.specs.declared.Line.{Line}
-use Rattle.schedule.specs.Kept.{mayJoin}
+use Rattle.field.specs.Field.{context}
+use Rattle.record.specs.Record.{numberOf}
 use Rattle.reader.specs.Open.{fileFault}
-use Rattle.reader.specs.File.{File, Ending, whole, stopped, readFile, counted, checkFile, numberOf}
-use Rattle.reader.specs.Reader.{on, openFile, nextRecord, call, endingOf, told}
+use Rattle.reader.specs.File.{File, Ending, whole, stopped, readFile, checkedAs, checkFile}
+use Rattle.reader.specs.Reader.{on, openFile, nextRecord, call, endingOf, answerAt}
 use Rattle.reader.specs.declared.State.{State}
 use Rattle.reader.specs.declared.Handed.{Handed}
 use Rattle.reader.specs.declared.Handed.the-variants.{Record as HandedRecord, Refused as HandedRefusal, End as HandedEnd}
@@ -131,8 +131,8 @@ module _ (s : List ℕ) (t : State) where
   ever-ended h n = rests s t n (again-end h) ∙ h
 
 -- ---- all calls
-tells : (s : List ℕ) (n : ℕ) (t : State) (f : File) → Tells s t f → call n s t ≡ told n (f .records) (f .ending)
-unfolding call told
+tells : (s : List ℕ) (n : ℕ) (t : State) (f : File) → Tells s t f → call n s t ≡ answerAt n (f .records) (f .ending)
+unfolding call answerAt
 tells s zero t f k =
     by-rest s t f (λ e h q. ap nextOf h ∙ rw q) (λ r g h i q. h ∙ rw q) k
 tells s (suc n) t f k =
@@ -140,7 +140,7 @@ tells s (suc n) t f k =
     (λ r g h i q. tells s n (nextRecord s t .state) g i ∙ rw q) k
 
 -- From opening on the calls hand out the file's records, one by one, then tell the end or the refusal, and again on every later call.
-pub calls : (s : List ℕ) (n : ℕ) → call n s (openFile s) ≡ told n (readFile s .records) (readFile s .ending)
+pub calls : (s : List ℕ) (n : ℕ) → call n s (openFile s) ≡ answerAt n (readFile s .records) (readFile s .ending)
 calls s n = tells s n (openFile s) (readFile s) (from-opening s)
 
 -- ---- the order of records
@@ -157,10 +157,10 @@ sheet s h = stand s .sheet h
 pub record Counts (s : List ℕ) (t : State) (n : ℕ) : Type 0 where
   pub rest : File
   pub left : Tells s t rest
-  pub all : checkFile s ≡ counted (n + length (rest .records)) (rest .ending)
+  pub all : checkFile s ≡ checkedAs (n + length (rest .records)) (rest .ending)
   pub below : t .number ≡ 0 → n < t .at
 
-checks : (s : List ℕ) → checkFile s ≡ counted (1 + length (readFile s .records)) (readFile s .ending)
+checks : (s : List ℕ) → checkFile s ≡ checkedAs (1 + length (readFile s .records)) (readFile s .ending)
 unfolding checkFile
 checks s = refl
 
@@ -188,16 +188,16 @@ module _ (t : State) where
   after-passed (Stops f) n = refl
 
   abbrev lineOf : List ℕ → Line
-  lineOf s = lineAt (mayJoin (t .sofar .month) (t .sofar .schedule)) (t .sofar) s (t .at)
+  lineOf s = lineAt (t .sofar .last) (context (t .sofar .before)) s (t .at)
 
   pub line-on : (s : List ℕ) → movesOn t (lineOf s .answer) (lineOf s .next) (lineOf s .sofar) ≡ on t (lineOf s .answer) (lineOf s .next)
   unfolding lineAt
-  line-on s = after-line (readParts (mayJoin (t .sofar .month) (t .sofar .schedule)) (t .sofar) (t .at) (fieldsAt s (t .at))) (t .at + length (join (fieldsAt s (t .at))) + 2)
+  line-on s = after-line (readParts (t .sofar .last) (context (t .sofar .before)) (t .at) (fieldsAt s (t .at))) (t .at + length (join (fieldsAt s (t .at))) + 2)
 
   -- where it is passed as well,
   pub line-gone : (s : List ℕ) → goneBy (passedOf (lineOf s)) ≡ goneOf (on t (lineOf s .answer) (lineOf s .next))
   unfolding lineAt
-  line-gone s = after-passed (readParts (mayJoin (t .sofar .month) (t .sofar .schedule)) (t .sofar) (t .at) (fieldsAt s (t .at))) (t .at + length (join (fieldsAt s (t .at))) + 2)
+  line-gone s = after-passed (readParts (t .sofar .last) (context (t .sofar .before)) (t .at) (fieldsAt s (t .at))) (t .at + length (join (fieldsAt s (t .at))) + 2)
 
 -- and what it says of the call.
 on-by : {P : Type 0} (h : Next) (t u : State) → gone h t ≡ On u → ((r : Record) → h ≡ Hands r → t ≡ u → P) → P
@@ -225,7 +225,7 @@ module _ (s : List ℕ) (t : State) (n : ℕ) (c : Counts s t n) where
       record {
         rest = g;
         left = i;
-        all = c .all ∙ ap (λ (f : File). counted (n + length (f .records)) (f .ending)) q ∙ ap (λ (k : ℕ). counted k (g .ending)) m;
+        all = c .all ∙ ap (λ (f : File). checkedAs (n + length (f .records)) (f .ending)) q ∙ ap (λ (k : ℕ). checkedAs k (g .ending)) m;
         below = λ z. omega (arith, c .below (was-open s t r h), moves s t r h);
       })
       (c .left)
@@ -236,19 +236,19 @@ module _ (s : List ℕ) (t : State) (n : ℕ) (c : Counts s t n) where
 
   -- an answer that is no record is the file's ending
   told-ending : {P : Type 0} (a : Next) → nextRecord s t .next ≡ a → ((r : Record) → a ≡ Hands r → ⊥) →
-      ((e : Ending) → endingOf e ≡ a → checkFile s ≡ counted n e → P) → P
+      ((e : Ending) → endingOf e ≡ a → checkFile s ≡ checkedAs n e → P) → P
   told-ending a h none give =
       by-rest s t (c .rest)
       (λ e k q. give e (sym (ap nextOf k) ∙ h)
-      (c .all ∙ ap (λ (f : File). counted (n + length (f .records)) (f .ending)) q ∙ ap (λ (m : ℕ). counted m e) (add-zero n)))
+      (c .all ∙ ap (λ (f : File). checkedAs (n + length (f .records)) (f .ending)) q ∙ ap (λ (m : ℕ). checkedAs m e) (add-zero n)))
       (λ r g k i q. absurd (none r (sym h ∙ k)))
       (c .left)
 
-  refusal-of : (e : Ending) (f : Refusal) → endingOf e ≡ Refuses f → counted n e ≡ Not f
+  refusal-of : (e : Ending) (f : Refusal) → endingOf e ≡ Refuses f → checkedAs n e ≡ Not f
   refusal-of whole f h = absurd (let z : _≡_ {A = ℕ} 0 1 = cc in omega arith)
   refusal-of (stopped g) f h = let z : g ≡ f = cc in ap Not z
 
-  end-of : (e : Ending) → endingOf e ≡ End → counted n e ≡ Records n
+  end-of : (e : Ending) → endingOf e ≡ End → checkedAs n e ≡ Records n
   end-of whole h = refl
   end-of (stopped g) h = absurd (let z : _≡_ {A = ℕ} 0 1 = cc in omega arith)
 

@@ -10,6 +10,7 @@ use borrow.Author.Tests.{ne-eqb, leb-true, eqb-true, ltb-true, ltb-false, lt-ltb
 use lib.Dec.{leb, ltb, eqb}
 use lib.ListN.{length, getD, take, drop, length-append, length-drop, take-append-drop}
 use lib.Seq.{append-snoc, drop-drop, drop-append-add, drop-length, getD-drop}
+use Rattle.cells.specs.Limits.{fileMost}
 use Rattle.cells.specs.Test.{first}
 use Rattle.cells.specs.Text.{bytes}
 use Rattle.cells.proofs.Alike.{and-left, and-right}
@@ -17,14 +18,13 @@ use Rattle.cells.proofs.Back.{passed}
 use Rattle.cells.proofs.Same.{eqs-eq}
 use Rattle.cells.proofs.Split.{split as cases}
 use Rattle.line.specs.Frame.{plain, plainLine, plainLines, file, WellFramed, frameFault}
-use Rattle.line.specs.Fields.{push, split, line}
+use Rattle.line.specs.Fields.{push, split, line, fieldsAt}
 use Rattle.line.proofs.Laws.{framed, line-before}
 use Rattle.number.specs.Number.{shortest, readNumber}
 use Rattle.supplement.specs.declared.Supplement.{Supplement}
 use Rattle.order.specs.Order.{some, header, directions, drug, records}
 use Rattle.order.specs.Next.{follow}
-use Rattle.field.specs.declared.Sofar.{Sofar}
-use Rattle.row.specs.Row.{fieldsAt}
+use Rattle.field.specs.Field.{Context}
 use Rattle.record.specs.declared.Record.{Record}
 use Rattle.record.specs.declared.Answer.the-variants.{Took}
 use Rattle.record_line.specs.Line.{recordNumber, readFields, readParts}
@@ -93,7 +93,7 @@ from-framed s (l ∷ ls) n h e v =
 pub opens : (s : List ℕ) → fileFault s .number ≡ 0 → Opened s
 unfolding fileFault versionLine
 opens s h =
-    let a = passed (leb (length s) 16384) 20 0 _ (λ z. omega arith) h in
+    let a = passed (leb (length s) fileMost) 20 0 _ (λ z. omega arith) h in
     let b = passed (eqb (frameFault s .number) 0) 21 (frameFault s .place) _ (λ z. omega arith) (a .1) in
     let c = passed (versionLine s) 22 0 _ (λ z. omega arith) (b .1) in
     let w : WellFramed s = framed s .0 (eqb-true (frameFault s .number) 0 (b .0)) in
@@ -103,7 +103,7 @@ opens s h =
 pub told-within : (s : List ℕ) → (fileFault s .number ≡ 0 → ⊥) → (20 ≤ fileFault s .number) × (fileFault s .number ≤ 22)
 unfolding fileFault first
 told-within s z =
-    cases (leb (length s) 16384)
+    cases (leb (length s) fileMost)
     (λ a. cases (eqb (frameFault s .number) 0)
     (λ b. cases (versionLine s) (λ d. absurd (simp (a, b, d) at z refl)) (λ d. simp (a, b, d) (omega arith, omega arith)))
     (λ b. simp (a, b) (omega arith, omega arith)))
@@ -111,8 +111,13 @@ told-within s z =
 
 -- which a reader says again.
 pub kept : (s : List ℕ) → (fileFault s .number ≡ 0 → ⊥) → saidAgain (fileFault s .number) ≡ fileFault s .number
-unfolding saidAgain
-kept s z = let w = told-within s z in rw (le-leb 20 _ (w .0), le-leb _ 22 (w .1))
+unfolding saidAgain some fileFault first
+kept s z =
+    cases (leb (length s) fileMost)
+    (λ a. cases (eqb (frameFault s .number) 0)
+    (λ b. cases (versionLine s) (λ d. absurd (simp (a, b, d) at z refl)) (λ d. simp (a, b, d)))
+    (λ b. simp (a, b)))
+    (λ a. simp a)
 
 -- ---- the line at an offset
 head-of : (s : List ℕ) (at : ℕ) → getD s at 0 ≡ getD (drop at s) 0 0
@@ -160,9 +165,9 @@ module _ (s : List ℕ) (at : ℕ) where
       (λ e. simp e)
 
   -- so a line that is taken begins inside it.
-  pub took-inside : (joins : Supplement → Bool) (c : Sofar) (r : Record) → readParts joins c at (fieldsAt s at) ≡ Took r → at < length s
+  pub took-inside : (last : ℕ) (c : Context) (r : Record) → readParts last c at (fieldsAt s at) ≡ Took r → at < length s
   unfolding readParts readFields follow some records header directions drug
-  took-inside joins c r h =
+  took-inside last c r h =
       cases (ltb at (length s)) (λ e. ltb-true at (length s) e)
       (λ e. absurd (let k = simp (no-number (ltb-false at (length s) e)) at h in let z : _≡_ {A = ℕ} 0 1 = cc in omega arith))
 

@@ -2,7 +2,7 @@
 -- Assumes nothing.
 use Prim.Native.Nat.{ℕ, _+_}
 use mathlib.Core.Path.{_≡_, refl, sym, ap, subst, _∙_}
-use mathlib.Core.Bool.{Bool, true, false, cond}
+use mathlib.Core.Bool.{true, false}
 use mathlib.Core.List.{List, [], _∷_, _++_, map, append-nil, append-assoc}
 use native.Mathlib.Omega.{arith}
 use borrow.Author.Tests.{eqb-true}
@@ -14,20 +14,19 @@ use Rattle.supplement.specs.declared.Supplement.{Supplement}
 use Rattle.order.specs.Order.{Begins, Sheet, lastOf}
 use Rattle.order.specs.Next.{follow, closes}
 use Rattle.order.proofs.Laws.{at-start, last-is, stands, closing as closing-order}
-use Rattle.schedule.specs.Schedule.{list}
-use Rattle.field.specs.declared.Sofar.{Sofar}
+use Rattle.field.specs.Field.{Context}
 use Rattle.row.specs.Row.{readRow}
 use Rattle.row.specs.declared.Row.{Row}
-use Rattle.record.specs.Record.{start, after, supplements}
+use Rattle.record.specs.Record.{numberOf, start, after, supplements, recordFrom}
 use Rattle.record_line.specs.Fields.{recordOf}
 use Rattle.record_line.specs.Line.{refusal, fromRow, readFields, recordNumber, readParts}
+use Rattle.record.specs.declared.Sofar.{Sofar}
 use Rattle.record.specs.declared.Record.{Record}
-use Rattle.record.specs.declared.Record.the-variants.{Issue, Rp, Usage, Supplement as Supply, Drug, Kept}
 use Rattle.record.specs.declared.Refusal.{Refusal}
 use Rattle.record.specs.declared.Answer.{Answer}
 use Rattle.record.specs.declared.Answer.the-variants.{Took, Refused}
 use Rattle.reader.specs.Open.{fileFault}
-use Rattle.reader.specs.File.{File, Ending, whole, stopped, linesOf, on, closing, readLines, readFile, numberOf}
+use Rattle.reader.specs.File.{File, Ending, whole, stopped, linesOf, on, closing, inList, readLines, readFile}
 
 -- a refusal is no record
 no-record : {P : Type 0} (f : Refusal) (r : Record) → Refused f ≡ Took r → P
@@ -36,9 +35,9 @@ no-record f r h = absurd (let z : _≡_ {A = ℕ} 0 1 = cc in omega arith)
 same-record : (q r : Record) → Took q ≡ Took r → q ≡ r
 same-record q r h = cc
 
--- The record of a number has that number,
+-- The record of a number has that number.
 pub its-number : (n at : ℕ) (fs : List (List ℕ)) → numberOf (recordOf n at fs) ≡ n
-unfolding recordOf
+unfolding recordOf recordFrom
 its-number n at fs =
     cases (eqb n 51) (λ e. simp e (sym (eqb-true n 51 e)))
     (λ a.
@@ -49,29 +48,20 @@ its-number n at fs =
     cases (eqb n 181) (λ e. simp (a, b, d, e) (sym (eqb-true n 181 e)))
     (λ f. cases (eqb n 201) (λ e. simp (a, b, d, f, e) (sym (eqb-true n 201 e))) (λ g. simp (a, b, d, f, g))))))
 
--- and leaves it.
-pub leaves-number : (c : Sofar) (r : Record) → after c r .last ≡ numberOf r
-leaves-number c (Issue x) = refl
-leaves-number c (Rp x) = refl
-leaves-number c (Usage x) = refl
-leaves-number c (Supply x) = refl
-leaves-number c (Drug x) = refl
-leaves-number c (Kept x) = refl
-
 -- a record that is taken may stand after the last one
-may-stand : (joins : Supplement → Bool) (c : Sofar) (at : ℕ) (parts : List (List ℕ)) (r : Record) → readParts joins c at parts ≡ Took r →
-    follow (c .last) (numberOf r) ≡ 0
+may-stand : (last : ℕ) (c : Context) (at : ℕ) (parts : List (List ℕ)) (r : Record) → readParts last c at parts ≡ Took r →
+    follow last (numberOf r) ≡ 0
 unfolding readParts readFields
-may-stand joins c at parts r h =
+may-stand last c at parts r h =
     let n : ℕ = recordNumber parts in
-    cases (eqb (follow (c .last) (recordNumber parts)) 0)
+    cases (eqb (follow last (recordNumber parts)) 0)
     (λ e.
-    let w : Row = readRow joins c (recordNumber parts) (at + length (getD parts 0 []) + 1) (drop 1 parts) in
-    cases (eqb (readRow joins c (recordNumber parts) (at + length (getD parts 0 []) + 1) (drop 1 parts) .number) 0)
+    let w : Row = readRow c (recordNumber parts) (at + length (getD parts 0 []) + 1) (drop 1 parts) in
+    cases (eqb (readRow c (recordNumber parts) (at + length (getD parts 0 []) + 1) (drop 1 parts) .fault .number) 0)
     (λ z.
     let q : recordOf (recordNumber parts) (at + length (getD parts 0 []) + 1) (drop 1 parts) ≡ r = same-record _ r (simp (e, z) at h) in
     let k : numberOf r ≡ recordNumber parts = ap numberOf (sym q) ∙ its-number (recordNumber parts) (at + length (getD parts 0 []) + 1) (drop 1 parts) in
-    ap (follow (c .last)) k ∙ eqb-true _ _ e)
+    ap (follow last) k ∙ eqb-true _ _ e)
     (λ z. no-record _ r (simp (e, z) at h)))
     (λ e. no-record _ r (simp e at h))
 
@@ -105,12 +95,12 @@ more before r f k =
     record { begins = subst Begins e (k .begins); sheet = λ h. subst Sheet e (k .sheet h) }
 
 -- one line, where those after it stand
-by-answer : (before : List ℕ) (c : Sofar) (joins : Supplement → Bool) (at : ℕ) (parts : List (List ℕ)) (rest : Record → File) → Begins before →
-    c .last ≡ lastOf 0 before → ((r : Record) → Begins (before ++ (numberOf r ∷ [])) → Stand (before ++ (numberOf r ∷ [])) (rest r)) →
-    (a : Answer) → readParts joins c at parts ≡ a → Stand before (on a rest)
-by-answer before c joins at parts rest b l k (Refused f) e = refused-here before f b
-by-answer before c joins at parts rest b l k (Took r) e =
-    let z : follow (lastOf 0 before) (numberOf r) ≡ 0 = ap (λ (q : ℕ). follow q (numberOf r)) (sym l) ∙ may-stand joins c at parts r e in
+by-answer : (before : List ℕ) (last : ℕ) (c : Context) (at : ℕ) (parts : List (List ℕ)) (rest : Record → File) → Begins before →
+    last ≡ lastOf 0 before → ((r : Record) → Begins (before ++ (numberOf r ∷ [])) → Stand (before ++ (numberOf r ∷ [])) (rest r)) →
+    (a : Answer) → readParts last c at parts ≡ a → Stand before (on a rest)
+by-answer before last c at parts rest b l k (Refused f) e = refused-here before f b
+by-answer before last c at parts rest b l k (Took r) e =
+    let z : follow (lastOf 0 before) (numberOf r) ≡ 0 = ap (λ (q : ℕ). follow q (numberOf r)) (sym l) ∙ may-stand last c at parts r e in
     more before r (rest r) (k r (stands before (numberOf r) b .0 z))
 
 by-lines : (ls : List (List ℕ)) (before : List ℕ) (at : ℕ) (c : Sofar) (xs : List Supplement) → Begins before → c .last ≡ lastOf 0 before →
@@ -118,10 +108,10 @@ by-lines : (ls : List (List ℕ)) (before : List ℕ) (at : ℕ) (c : Sofar) (xs
 unfolding readLines
 by-lines [] before at c xs b l = at-end before at c b l
 by-lines (x ∷ ls) before at c xs b l =
-    by-answer before c (λ y. list (c .month) (xs ++ (y ∷ []))) at (split x) (λ r. readLines (at + length x + 2) (after c r) (supplements xs r) ls) b l
+    by-answer before (c .last) (inList (c .before) xs) at (split x) (λ r. readLines (at + length x + 2) (after (c .before) r) (supplements xs r) ls) b l
     (λ r h.
-    by-lines ls (before ++ (numberOf r ∷ [])) (at + length x + 2) (after c r) (supplements xs r) h (leaves-number c r ∙ sym (last-is 0 (numberOf r) before)))
-    (readParts (λ y. list (c .month) (xs ++ (y ∷ []))) c at (split x)) refl
+    by-lines ls (before ++ (numberOf r ∷ [])) (at + length x + 2) (after (c .before) r) (supplements xs r) h (sym (last-is 0 (numberOf r) before)))
+    (readParts (c .last) (inList (c .before) xs) at (split x)) refl
 
 -- The records that a file hands out begin a sheet, by document 01's order, and those of a file that is taken are one.
 pub stand : (s : List ℕ) → Stand [] (readFile s)

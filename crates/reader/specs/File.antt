@@ -9,11 +9,12 @@ use Rattle.line.specs.Fields.{push, split}
 use Rattle.supplement.specs.declared.Supplement.{Supplement}
 use Rattle.order.specs.Next.{closes}
 use Rattle.schedule.specs.Schedule.{list}
-use Rattle.field.specs.declared.Sofar.{Sofar}
+use Rattle.field.specs.Field.{Context, judgedBy}
+use Rattle.field.specs.declared.Before.{Before}
 use Rattle.record.specs.Record.{start, after, supplements}
 use Rattle.record_line.specs.Line.{refusal, readParts}
+use Rattle.record.specs.declared.Sofar.{Sofar}
 use Rattle.record.specs.declared.Record.{Record}
-use Rattle.record.specs.declared.Record.the-variants.{Issue, Rp, Usage, Supplement as Supply, Drug, Kept}
 use Rattle.record.specs.declared.Refusal.{Refusal}
 use Rattle.record.specs.declared.Answer.{Answer}
 use Rattle.record.specs.declared.Answer.the-variants.{Took, Refused}
@@ -56,32 +57,27 @@ on (Refused f) rest = ended (stopped f)
 abbrev pub closing : ℕ → Sofar → File
 closing at c = cond (closes (c .last)) (ended whole) (ended (stopped (refusal 32 at)))
 
--- The lines from an offset on, after what the records before them leave; xs are the supplements so far of the RP. "31 this supplement, with
--- those before it in its RP, begins no allowed list."
+-- What a line's fields are judged by, after the supplements xs of its RP. "31 this supplement, with those before it in its RP, begins no allowed
+-- list."
+abbrev pub inList : Before → List Supplement → Context
+inList b xs = judgedBy b (λ x. list (b .month) (xs ++ (x ∷ [])))
+
+-- The lines from an offset on, after what the records before them leave; xs are the supplements so far of the RP.
 unfoldable pub readLines : ℕ → Sofar → List Supplement → List (List ℕ) → File
 readLines at c xs [] = closing at c
 readLines at c xs (l ∷ ls) =
-    on (readParts (λ x. list (c .month) (xs ++ (x ∷ []))) c at (split l)) (λ r. readLines (at + length l + 2) (after c r) (supplements xs r) ls)
+    on (readParts (c .last) (inList (c .before) xs) at (split l)) (λ r. readLines (at + length l + 2) (after (c .before) r) (supplements xs r) ls)
 
 -- "Version line, records, each ended by CR LF, then one byte 1Ah": the records begin after the version line's eight bytes.
 unfoldable pub readFile : List ℕ → File
 readFile s =
     cond (eqb (fileFault s .number) 0) (readLines 8 start [] (drop 1 (linesOf s))) (ended (stopped (refusal (fileFault s .number) (fileFault s .place))))
 
--- The number of a record.
-abbrev pub numberOf : Record → ℕ
-numberOf (Issue x) = 51
-numberOf (Rp x) = 101
-numberOf (Usage x) = 111
-numberOf (Supply x) = 181
-numberOf (Drug x) = 201
-numberOf (Kept x) = x .number
-
 -- How many records a file has, with its version line; or its refusal.
-abbrev pub counted : ℕ → Ending → Check
-counted n whole = Records n
-counted n (stopped f) = Not f
+abbrev pub checkedAs : ℕ → Ending → Check
+checkedAs n whole = Records n
+checkedAs n (stopped f) = Not f
 
 -- What checking a file tells.
 unfoldable pub checkFile : List ℕ → Check
-checkFile s = counted (1 + length (readFile s .records)) (readFile s .ending)
+checkFile s = checkedAs (1 + length (readFile s .records)) (readFile s .ending)

@@ -3,16 +3,17 @@
 use Prim.Native.Nat.{ℕ, zero, suc}
 use mathlib.Core.Bool.{Bool, cond, _&&_}
 use mathlib.Core.List.{List, [], _∷_}
-use lib.Dec.{ltb, leb, eqb}
+use lib.Dec.{ltb, eqb}
 use lib.ListN.{length, getD}
+use Rattle.order.specs.Order.{among}
 use Rattle.order.specs.Next.{closes}
-use Rattle.schedule.specs.Kept.{mayJoin}
+use Rattle.field.specs.Field.{context}
 use Rattle.record.specs.Record.{start, after}
 use Rattle.record_line.specs.Line.{refusal, lineAt}
 use Rattle.record.specs.declared.Record.{Record}
 use Rattle.record.specs.declared.Answer.{Answer}
 use Rattle.record.specs.declared.Answer.the-variants.{Took, Refused}
-use Rattle.reader.specs.Open.{fileFault}
+use Rattle.reader.specs.Open.{wholeFile, fileFault}
 use Rattle.reader.specs.File.{Ending, whole, stopped}
 use Rattle.reader.specs.Said.{Next, Hands, Refuses, End, Turn}
 use Rattle.reader.specs.declared.State.{State}
@@ -36,7 +37,7 @@ refuses t number = record { next = Refuses (refusal number (t .at)); state = t }
 -- What is refused again is 20, 21 or 22, which opening told. A state with any other number was given by no call: there nothing was opened, and
 -- "no records put just before this one would help" (24).
 unfoldable pub saidAgain : ℕ → ℕ
-saidAgain number = cond (leb 20 number && leb number 22) number 24
+saidAgain number = cond (among wholeFile number) number 24
 
 -- "Also at the end": 32 at the 1Ah where a needed record is missing.
 abbrev pub closing : State → Turn
@@ -44,7 +45,7 @@ closing t = cond (closes (t .sofar .last)) (record { next = End; state = t }) (r
 
 -- A record is handed out, and the reader goes on after it.
 abbrev pub on : State → Answer → ℕ → Turn
-on t (Took r) next = record { next = Hands r; state = record { number = 0; at = next; sofar = after (t .sofar) r } }
+on t (Took r) next = record { next = Hands r; state = record { number = 0; at = next; sofar = after (t .sofar .before) r } }
 on t (Refused f) next = record { next = Refuses f; state = t }
 
 -- One call.
@@ -52,8 +53,8 @@ unfoldable pub nextRecord : List ℕ → State → Turn
 nextRecord s t =
     cond (eqb (t .number) 0)
     (cond (endAt s (t .at)) (closing t)
-    (on t (lineAt (mayJoin (t .sofar .month) (t .sofar .schedule)) (t .sofar) s (t .at) .answer)
-    (lineAt (mayJoin (t .sofar .month) (t .sofar .schedule)) (t .sofar) s (t .at) .next)))
+    (on t (lineAt (t .sofar .last) (context (t .sofar .before)) s (t .at) .answer)
+    (lineAt (t .sofar .last) (context (t .sofar .before)) s (t .at) .next)))
     (refuses t (saidAgain (t .number)))
 
 -- The answer of the call that has n calls before it, from a state on.
@@ -67,7 +68,7 @@ endingOf whole = End
 endingOf (stopped f) = Refuses f
 
 -- The records first.
-unfoldable pub told : ℕ → List Record → Ending → Next
-told n [] e = endingOf e
-told zero (r ∷ rs) e = Hands r
-told (suc n) (r ∷ rs) e = told n rs e
+unfoldable pub answerAt : ℕ → List Record → Ending → Next
+answerAt n [] e = endingOf e
+answerAt zero (r ∷ rs) e = Hands r
+answerAt (suc n) (r ∷ rs) e = answerAt n rs e

@@ -1,9 +1,10 @@
 // The reader of a prescription file: opened once over the whole file, then one call hands out one record.
-use field::Sofar;
+use cells::Fault;
 use record::Answer;
 use record::Passed;
 use record::Record;
 use record::Refusal;
+use record::Sofar;
 ghost use mathlib.Core.Path.{_≡_};
 ghost use Rattle.record_line.specs.Line.{refusal as refusalOf};
 ghost use Rattle.reader.specs.Open.{versionLine};
@@ -75,15 +76,17 @@ pub fn open(s: &[u8]) -> State
 }
 
 // A refusal at a place of the file.
-fn told(number: u16, at: usize) -> Refusal
+fn refusal_at(number: u16, at: usize) -> Refusal
     ensures { λ r. ⌜ r ≡ refusalOf number at ⌝ }
 {
     Refusal {
-        number: number,
+        fault: Fault {
+            number: number,
+            place: 0,
+        },
         at: at,
         field: 0,
         code: 0,
-        place: 0,
     }
 }
 
@@ -91,7 +94,7 @@ fn refused(t: State, number: u16) -> Step
     ensures { λ r. ⌜ said r ≡ refuses t number ⌝ }
 {
     Step {
-        next: Handed::Refused(told(number, t.at)),
+        next: Handed::Refused(refusal_at(number, t.at)),
         state: t,
     }
 }
@@ -100,7 +103,7 @@ fn refused(t: State, number: u16) -> Step
 fn said_again(number: u16) -> u16
     ensures { λ r. ⌜ r ≡ saidAgain number ⌝ }
 {
-    if (20 <= number) & (number <= 22) {
+    if (20 == number) | ((21 == number) | ((22 == number) | false)) {
         return number;
     }
     24
@@ -129,7 +132,8 @@ fn close(t: State) -> Step
     refused(t, 32)
 }
 
-// A record and the state after it, or a refusal and the state as it was.
+// A record and the state after it, or a refusal and the state as it was. `sofar` is what the line leaves, after a refusal what it came with: taken
+// from one place in both arms, it need not be kept in memory.
 fn moved(t: State, answer: Answer, next: usize, sofar: Sofar) -> Step
     ensures { λ r. ⌜ said r ≡ movesOn t answer next sofar ⌝ }
 {
@@ -144,7 +148,11 @@ fn moved(t: State, answer: Answer, next: usize, sofar: Sofar) -> Step
         },
         Answer::Refused(f) => Step {
             next: Handed::Refused(f),
-            state: t,
+            state: State {
+                number: t.number,
+                at: t.at,
+                sofar: sofar,
+            },
         },
     }
 }
@@ -197,7 +205,7 @@ fn pass(s: &[u8], t: State) -> Gone
 {
     let at = t.at;
     if t.number != 0 {
-        return Gone::Refused(told(said_again(t.number), at));
+        return Gone::Refused(refusal_at(said_again(t.number), at));
     }
     if !ends(s, at) {
         return went(record_line::pass(t.sofar, s, at));
@@ -205,7 +213,7 @@ fn pass(s: &[u8], t: State) -> Gone
     if order::closes(t.sofar.last) {
         return Gone::End;
     }
-    Gone::Refused(told(32, at))
+    Gone::Refused(refusal_at(32, at))
 }
 
 // How many records a file has with its version line, or its refusal.

@@ -21,15 +21,15 @@ fn at_record(f: Refusal) {
     if f.field != 0 {
         named(b" field ", f.field);
     }
-    if f.number == 29 {
+    if f.fault.number == 29 {
         named(b" code ", f.code as usize);
-        named(b" place ", f.place);
+        named(b" place ", f.fault.place);
     }
 }
 
 fn refusal(f: Refusal) {
-    named(b"refused ", f.number as usize);
-    if f.number <= 22 {
+    named(b"refused ", f.fault.number as usize);
+    if f.fault.number <= 22 {
         return named(b" offset ", f.at);
     }
     at_record(f)

@@ -11,12 +11,12 @@ use Rattle.reader.proofs.pass.Tie as tie
 said-again-requires : tie.Need-said-again-requires
 said-again-requires c κs = search needs
 
-told-requires : tie.Need-told-requires
-told-requires c κs = search needs
+refusal-at-requires : tie.Need-refusal-at-requires
+refusal-at-requires c κs = search needs
 
 returns : tie.Need-returns
 unfolding nextRecord
-returns c = rw (ne-eqb _ _ (c .before .before .if1 .taken), c .told .ensures, c .before .said-again .ensures)
+returns c = rw (ne-eqb _ _ (c .before .before .if1 .taken), c .refusal-at .ensures, c .before .said-again .ensures)
 
 ends-requires : tie.Need-ends-requires
 ends-requires c κs = search needs
@@ -46,8 +46,8 @@ returns-3 c =
       sym (c .before .closes .ensures) ∙ c .if3 .taken,
     )
 
-told-requires-2 : tie.Need-told-requires-2
-told-requires-2 c κs = search needs
+refusal-at-requires-2 : tie.Need-refusal-at-requires-2
+refusal-at-requires-2 c κs = search needs
 
 returns-4 : tie.Need-returns-4
 unfolding nextRecord
@@ -56,7 +56,7 @@ returns-4 c =
       eq-eqb _ _ (c .before .before .before .before .before .if1 .left),
       sym (c .before .before .before .before .ends .ensures) ∙ not-false _ (c .before .before .before .if2 .left),
       sym (c .before .before .closes .ensures) ∙ c .before .if3 .left,
-      c .told2 .ensures,
+      c .refusal-at2 .ensures,
     )
 
 pub pass-spec : {M : Type 1} → statement M
@@ -64,7 +64,7 @@ pass-spec =
     tie.close
     (tie.spec
     said-again-requires
-    told-requires
+    refusal-at-requires
     returns
     ends-requires
     pass-requires
@@ -72,5 +72,5 @@ pass-spec =
     returns-2
     closes-requires
     returns-3
-    told-requires-2
+    refusal-at-requires-2
     returns-4)
