@@ -11,8 +11,8 @@ use lib.ListN.{length, length-append}
 use Rattle.cells.specs.Text.{bytes}
 use Rattle.cells.proofs.Split.{split}
 use Rattle.order.specs.Next.{closes}
-use Rattle.schedule.specs.Kept.{mayJoin}
-use Rattle.field.specs.declared.Sofar.{Sofar}
+use Rattle.field.specs.Field.{context}
+use Rattle.record.specs.declared.Sofar.{Sofar}
 use Rattle.record.specs.Record.{start, after}
 use Rattle.record.specs.declared.Record.{Record}
 use Rattle.record.specs.declared.Answer.{Answer}
@@ -46,7 +46,7 @@ module _ (out : List ℕ) (t : State) where
   pub record-length : (r : Record) (lent : List ℕ) → length (putRecord out t r lent .buffer) ≡ length out
   unfolding putRecord
   record-length r lent =
-      of-call (t .closed) (readParts (mayJoin (t .sofar .month) (t .sofar .schedule)) (t .sofar) (t .at) (parts (lentHeld lent r))) (printRecord (lentHeld lent r)) (after (t .sofar) r)
+      of-call (t .closed) (readParts (t .sofar .last) (context (t .sofar .before)) (t .at) (parts (lentHeld lent r))) (printRecord (lentHeld lent r)) (after (t .sofar .before) r)
 
   pub close-length : length (closeBuffer out t .buffer) ≡ length out
   unfolding closeBuffer

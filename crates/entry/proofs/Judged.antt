@@ -12,12 +12,10 @@ use Rattle.cells.specs.Test.{test, fault, first, took}
 use Rattle.cells.proofs.Split.{split as cases}
 use Rattle.number.specs.Number.{none, figure, figures, shortest, readNumber}
 use Rattle.number.specs.Print.{digits, printNumber}
-use Rattle.supplement.specs.declared.Supplement.{Supplement}
-use Rattle.field.specs.Field.{forbidden, present, fits, isTaken, valued, ordered, codeFault, listed, wrong, readField}
+use Rattle.field.specs.Field.{Context, forbidden, present, fits, isTaken, valued, ordered, codeFault, listed, wrong, readField}
 use Rattle.field.specs.declared.Rule.{Rule}
-use Rattle.field.specs.declared.Sofar.{Sofar}
 use Rattle.field.proofs.Characters.{filled-is}
-use Rattle.field.proofs.Bridge.{but-five}
+use Rattle.field.proofs.Bridge.{but-five, value-fault}
 use Rattle.row.specs.Table.{mark}
 use Rattle.laid.proofs.Numerals.{no-digits, last-digit, count-more, width-of, lasts, printed-lasts}
 use Rattle.laid.proofs.Figures.{one-digit as one-figure}
@@ -80,7 +78,7 @@ is-number : (b : Bool) (k : ℕ) → isTaken (cond b (took k) none) ≡ b
 is-number true k = refl
 is-number false k = refl
 
-module _ (joins : Supplement → Bool) (c : Sofar) (r : Rule) (n : ℕ) (l : 7 ≤ r .form) (m : eqb (r .need) forbidden ≡ false) where
+module _ (c : Context) (r : Rule) (n : ℕ) (l : 7 ≤ r .form) (m : eqb (r .need) forbidden ≡ false) where
   in-range : isTaken (readNumber (r .lo) (r .hi) (printNumber n)) ≡ leb (r .lo) n && leb n (r .hi)
   unfolding readNumber
   in-range = rw (number-shortest n, number-value n) (is-number (leb (r .lo) n && leb n (r .hi)) n)
@@ -104,7 +102,7 @@ module _ (joins : Supplement → Bool) (c : Sofar) (r : Rule) (n : ℕ) (l : 7 �
   unfolding codeFault
   no-code = rw (ne-eqb (r .form) 4 (λ z. omega arith), ne-eqb (r .form) 5 (λ z. omega arith))
 
-  no-list : listed joins r (printNumber n) ≡ true
+  no-list : listed (c .joins) r (printNumber n) ≡ true
   unfolding listed
   no-list = rw (ne-eqb (r .form) 5 (λ z. omega arith))
 
@@ -123,22 +121,23 @@ module _ (joins : Supplement → Bool) (c : Sofar) (r : Rule) (n : ℕ) (l : 7 �
   in-order true false = refl
   in-order false o = refl
 
-  wrong-is : wrong joins c r (printNumber n) ≡ numberWrong c r n
+  wrong-is : wrong c r (printNumber n) .number ≡ numberWrong (c .before) r n
   unfolding wrong numberWrong
   wrong-is =
+      let its-fault = value-fault r (printNumber n) in
       (λ i.
       first (test 28 0 (here i) ∷
       cond (filled-is (printNumber n) (λ z. omega (arith, number-some n)) i) []
       (test 26 0 (fine i) ∷
-      test 27 0 (formed i) ∷
-      test 30 0 (ordered c r (number-value n i)) ∷
-      test 29 0 (eqb (no-code i .number) 0) ∷
+      test (its-fault i .number) (its-fault i .place) (formed i) ∷
+      test 30 0 (ordered (c .before) r (number-value n i)) ∷
+      test 29 (no-code i .place) (eqb (no-code i .number) 0) ∷
       test 31 0 (no-list i) ∷ [])) .number)
-      ∙ in-order ((leb (r .lo) n && leb n (r .hi)) && not (eqb (r .form) 8 && eqb n 5)) (ordered c r n)
+      ∙ in-order ((leb (r .lo) n && leb n (r .hi)) && not (eqb (r .form) 8 && eqb n 5)) (ordered (c .before) r n)
 
   -- What is wrong with a number that is held is what is wrong with its digits.
-  pub number-judged : numberWrong c r n ≡ readField joins c r (printNumber n) .number
+  pub number-judged : numberWrong (c .before) r n ≡ readField c r (printNumber n) .fault .number
   unfolding readField
   number-judged =
       sym wrong-is
-      ∙ cases (eqb (wrong joins c r (printNumber n)) 0) (λ e. simp e (eqb-true _ _ e)) (λ e. simp e)
+      ∙ cases (eqb (wrong c r (printNumber n) .number) 0) (λ e. simp e (eqb-true _ _ e)) (λ e. simp e)

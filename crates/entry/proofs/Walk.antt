@@ -2,7 +2,6 @@
 -- Assumes nothing.
 use Prim.Native.Nat.{ℕ, suc, _+_, _-_, _≤_, _<_}
 use mathlib.Core.Path.{_≡_, refl, _∙_, ap₂}
-use mathlib.Core.Bool.{Bool}
 use mathlib.Core.List.{List, [], _∷_}
 use native.Mathlib.Numerals.{add-one}
 use native.Mathlib.Omega.{arith}
@@ -12,11 +11,9 @@ use lib.ListN.{length, getD, take, drop, length-drop, drop-of-length-le}
 use lib.Seq.{drop-cons, drop-drop}
 use Rattle.cells.proofs.Split.{split as cases}
 use Rattle.line.specs.Fields.{split, push}
-use Rattle.supplement.specs.declared.Supplement.{Supplement}
-use Rattle.field.specs.Field.{readField}
+use Rattle.field.specs.Field.{Context, readField}
 use Rattle.field.specs.declared.Rule.{Rule}
-use Rattle.field.specs.declared.Sofar.{Sofar}
-use Rattle.row.specs.Table.{kindField, codeField, rulesFrom, keptRule}
+use Rattle.row.specs.Table.{wide, kindField, codeField, rulesFrom, keptRule}
 use Rattle.laid.specs.Laid.{Laid}
 use Rattle.entry.specs.Code.Judge.{wrongAt, wrongFrom, upto, commaFrom, textsWrong}
 
@@ -30,8 +27,8 @@ kind-most n =
 pub code-most : (n : ℕ) → codeField n ≤ 5
 code-most n = cases (eqb n 201) (λ e. simp e (omega arith)) (λ e. simp e (omega arith))
 
--- no table has more than nine rules
-pub few-rules : (n : ℕ) (kind code : List ℕ) → length (rulesFrom n kind code) ≤ 9
+-- no table has more rules than a row has room for
+pub few-rules : (n : ℕ) (kind code : List ℕ) → length (rulesFrom n kind code) ≤ wide
 unfolding rulesFrom
 few-rules n kind code =
     cases (eqb n 51) (λ e. simp e (omega arith))
@@ -39,19 +36,19 @@ few-rules n kind code =
     (λ b. cases (eqb n 111) (λ e. simp (a, b, e) (omega arith))
     (λ d. cases (eqb n 181) (λ e. simp (a, b, d, e) (omega arith)) (λ e. simp (a, b, d, e) (omega arith)))))
 
-module _ (joins : Supplement → Bool) (c : Sofar) (lent : List ℕ) (rs : List Rule) (p : Laid) (count i : ℕ) (h : i < count) where
+module _ (c : Context) (lent : List ℕ) (rs : List Rule) (p : Laid) (count i : ℕ) (h : i < count) where
   one-more : count - i ≡ suc (count - (i + 1))
   one-more = omega arith
 
   -- a field that is wrong,
-  pub wrong-here : (wrongAt joins c lent rs p i ≡ 0 → ⊥) → wrongFrom joins c lent rs p (count - i) i ≡ wrongAt joins c lent rs p i
+  pub wrong-here : (wrongAt c lent rs p i ≡ 0 → ⊥) → wrongFrom c lent rs p (count - i) i ≡ wrongAt c lent rs p i
   unfolding wrongFrom
-  wrong-here z = rw (one-more, ne-eqb (wrongAt joins c lent rs p i) 0 z)
+  wrong-here z = rw (one-more, ne-eqb (wrongAt c lent rs p i) 0 z)
 
   -- and one that is not
-  pub wrong-later : wrongAt joins c lent rs p i ≡ 0 → wrongFrom joins c lent rs p (count - i) i ≡ wrongFrom joins c lent rs p (count - (i + 1)) (i + 1)
+  pub wrong-later : wrongAt c lent rs p i ≡ 0 → wrongFrom c lent rs p (count - i) i ≡ wrongFrom c lent rs p (count - (i + 1)) (i + 1)
   unfolding wrongFrom
-  wrong-later z = rw (one-more, eq-eqb (wrongAt joins c lent rs p i) 0 z)
+  wrong-later z = rw (one-more, eq-eqb (wrongAt c lent rs p i) 0 z)
 
 -- ---- texts between commas
 -- The bytes up to a comma are the first of them.
@@ -99,23 +96,23 @@ more-texts (b ∷ s) h =
 pub comma-most : (s : List ℕ) (from to : ℕ) → from ≤ length s → to ≡ commaFrom s from → (from ≤ to) × (to ≤ length s)
 comma-most s from to h q = (omega arith, omega (arith, upto-most (drop from s), length-drop from s))
 
-module _ (joins : Supplement → Bool) (c : Sofar) (s : List ℕ) (from to : ℕ) (h : from ≤ length s) (q : to ≡ commaFrom s from) where
+module _ (c : Context) (s : List ℕ) (from to : ℕ) (h : from ≤ length s) (q : to ≡ commaFrom s from) where
   size : to - from ≡ length (upto (drop from s))
   size = omega arith
 
   pub this-text : take (to - from) (drop from s) ≡ upto (drop from s)
   this-text = rw size (upto-take (drop from s))
 
-  module _ (u : Rule) (m : u ≡ keptRule) (n : ℕ) (g : n ≡ readField joins c u (take (to - from) (drop from s)) .number) where
-    read : n ≡ readField joins c keptRule (upto (drop from s)) .number
-    read = g ∙ ap₂ (λ (v : Rule) (f : List ℕ). readField joins c v f .number) m this-text
+  module _ (u : Rule) (m : u ≡ keptRule) (n : ℕ) (g : n ≡ readField c u (take (to - from) (drop from s)) .fault .number) where
+    read : n ≡ readField c keptRule (upto (drop from s)) .fault .number
+    read = g ∙ ap₂ (λ (v : Rule) (f : List ℕ). readField c v f .fault .number) m this-text
 
-    all-texts : split (drop from s) ≡ upto (drop from s) ∷ [] → n ≡ 0 → textsWrong joins c (split (drop from s)) ≡ 0
+    all-texts : split (drop from s) ≡ upto (drop from s) ∷ [] → n ≡ 0 → textsWrong c (split (drop from s)) ≡ 0
     unfolding textsWrong
     all-texts e z = rw (e, ← read, eq-eqb n 0 z)
 
     -- a text that is wrong,
-    pub wrong-text-here : (n ≡ 0 → ⊥) → textsWrong joins c (split (drop from s)) ≡ n
+    pub wrong-text-here : (n ≡ 0 → ⊥) → textsWrong c (split (drop from s)) ≡ n
     unfolding textsWrong
     wrong-text-here z =
         cases (eqb (length (upto (drop from s))) (length (drop from s)))
@@ -125,11 +122,11 @@ module _ (joins : Supplement → Bool) (c : Sofar) (s : List ℕ) (from to : ℕ
         rw (more-texts (drop from s) (omega (arith, k, upto-most (drop from s))), ← read, ne-eqb n 0 z))
 
     -- the last,
-    pub no-text-more : to ≡ length s → n ≡ 0 → textsWrong joins c (split (drop from s)) ≡ 0
+    pub no-text-more : to ≡ length s → n ≡ 0 → textsWrong c (split (drop from s)) ≡ 0
     no-text-more e z = all-texts (last-text (drop from s) (omega (arith, length-drop from s))) z
 
     -- and one with others after it
-    pub next-text : (to ≡ length s → ⊥) → n ≡ 0 → textsWrong joins c (split (drop from s)) ≡ textsWrong joins c (split (drop (to + 1) s))
+    pub next-text : (to ≡ length s → ⊥) → n ≡ 0 → textsWrong c (split (drop from s)) ≡ textsWrong c (split (drop (to + 1) s))
     unfolding textsWrong
     next-text e z =
         let k : from + suc (length (upto (drop from s))) ≡ to + 1 = omega arith in

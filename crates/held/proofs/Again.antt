@@ -11,7 +11,7 @@ use lib.ListN.{length, drop}
 use Rattle.cells.specs.Test.{Answer, took, refused}
 use Rattle.cells.proofs.Split.{split as cases}
 use Rattle.line.specs.Frame.{plainLine}
-use Rattle.line.specs.Fields.{split, join}
+use Rattle.line.specs.Fields.{split, join, nth}
 use Rattle.line.proofs.Laws.{join-split, split-join}
 use Rattle.number.specs.Number.{value, shortest, readNumber}
 use Rattle.number.specs.Print.{printNumber}
@@ -26,11 +26,11 @@ use Rattle.supplement_writer.specs.Print.{raw as supplementText, agrees}
 use Rattle.printed.specs.Printed.{dateField, usageField, supplementField, readsAs}
 use Rattle.printed.proofs.Laws.{date-reads, usage-reads, supplement-reads}
 use Rattle.order.specs.Next.{follow}
-use Rattle.field.specs.Field.{rule, isEmpty, isTaken, numberOf, faultIn, codeFault, wrong}
-use Rattle.field.specs.declared.Sofar.{Sofar}
-use Rattle.row.specs.Table.{nth, typed, rules, rulesFrom}
-use Rattle.record.specs.Record.{textAt, after, supplements}
-use Rattle.record_line.specs.Fields.{placeOf, dateIn, usageIn, supplementIn, recordOf}
+use Rattle.field.specs.declared.Before.{Before}
+use Rattle.field.specs.Field.{Context, rule, isEmpty, isTaken, writtenNumber, faultIn, codeFault, wrong}
+use Rattle.row.specs.Table.{typed, rules, rulesFrom}
+use Rattle.record.specs.Record.{textAt, after, supplements, dateIn, usageIn, supplementIn, recordFrom}
+use Rattle.record_line.specs.Fields.{placeOf, recordOf}
 use Rattle.record_line.specs.Line.{numberIn, readParts}
 use Rattle.record.specs.declared.UsageCode.{UsageCode}
 use Rattle.record.specs.declared.UsageCode.the-variants.{Is as usageIs, Empty as noUsage}
@@ -49,7 +49,7 @@ use Rattle.held.proofs.Record.{texts}
 use Rattle.held.proofs.Plain as plain
 
 -- ---- value by value
-optional-value : (n : ℕ) → numberOf (print (optional n)) ≡ n
+optional-value : (n : ℕ) → writtenNumber (print (optional n)) ≡ n
 unfolding value
 optional-value n = cases (eqb n 0) (λ e. rw e (sym (eqb-true n 0 e))) (λ e. rw e (number-value n))
 
@@ -105,14 +105,14 @@ moved at fs (Drug x) =
 moved at fs (Kept x) = Kept (record { number = x .number; fields = record { from = at; to = at + length (join fs) } })
 
 -- It leaves what the record leaves,
-leaves-same : (c : Sofar) (at : ℕ) (fs : List (List ℕ)) (r : Record) → after c (moved at fs r) ≡ after c r
+leaves-same : (b : Before) (at : ℕ) (fs : List (List ℕ)) (r : Record) → after b (moved at fs r) ≡ after b r
 unfolding moved
-leaves-same c at fs (Issue x) = refl
-leaves-same c at fs (Rp x) = refl
-leaves-same c at fs (Usage x) = refl
-leaves-same c at fs (Supply x) = refl
-leaves-same c at fs (Drug x) = refl
-leaves-same c at fs (Kept x) = refl
+leaves-same b at fs (Issue x) = refl
+leaves-same b at fs (Rp x) = refl
+leaves-same b at fs (Usage x) = refl
+leaves-same b at fs (Supply x) = refl
+leaves-same b at fs (Drug x) = refl
+leaves-same b at fs (Kept x) = refl
 
 same-codes : (xs : List Supplement) (at : ℕ) (fs : List (List ℕ)) (r : Record) → supplements xs (moved at fs r) ≡ supplements xs r
 unfolding moved
@@ -165,27 +165,27 @@ holds-same s lent at rest (Kept x) h =
     λ i. holding (cond (typed (x .number)) 0 (x .number)) (map text (split (e i)))
 
 -- ---- what is read of the fields
-module _ (joins : Supplement → Bool) (c : Sofar) where
+module _ (last : ℕ) (c : Context) where
   -- codes, where there are some
-  usage-read : (need : ℕ) (k : UsageCode) → wrong joins c (rule need 4 0 0) (print (usageValue k)) ≡ 0 →
+  usage-read : (need : ℕ) (k : UsageCode) → wrong c (rule need 4 0 0) (print (usageValue k)) .number ≡ 0 →
       usageIn (readUsage (print (usageValue k))) ≡ k
   unfolding readUsage codeFault
   usage-read need (usageIs i) h =
-      usage-value i (readUsage (usageField i)) refl (coded joins c _ (usageField i) (usage-filled i) h)
+      usage-value i (readUsage (usageField i)) refl (coded c _ (usageField i) (usage-filled i) h)
   usage-read need noUsage h = refl
 
-  supplement-read : (need : ℕ) (k : SupplementCode) → wrong joins c (rule need 5 0 0) (print (supplementValue k)) ≡ 0 →
+  supplement-read : (need : ℕ) (k : SupplementCode) → wrong c (rule need 5 0 0) (print (supplementValue k)) .number ≡ 0 →
       supplementIn (readSupplement (print (supplementValue k))) ≡ k
   unfolding readSupplement codeFault
   supplement-read need (supplementIs x) h =
       supplement-value x (readSupplement (supplementField x)) refl
-      (coded joins c _ (supplementField x) (supplement-filled x) h)
+      (coded c _ (supplementField x) (supplement-filled x) h)
   supplement-read need noSupplement h = refl
 
   -- ---- the record that is read
   -- a number that has no line in the table
   kept-is : (n at : ℕ) (fs : List (List ℕ)) → typed n ≡ false → recordOf n at fs ≡ Kept (record { number = n; fields = record { from = at; to = at + length (join fs) } })
-  unfolding recordOf typed
+  unfolding recordOf recordFrom typed
   kept-is n at fs t =
       cases (eqb n 51) (λ e. never (simp e at t))
       (λ a. cases (eqb n 101) (λ e. never (simp (a, e) at t))
@@ -197,12 +197,12 @@ module _ (joins : Supplement → Bool) (c : Sofar) where
       never h = absurd (let z : _≡_ {A = ℕ} 0 1 = cc in omega arith)
 
   -- the record of a record's own number and fields, where they are fine
-  same-record : (lent : List ℕ) (at : ℕ) (r : Record) → (lentHeld lent r .number ≡ 0 → ⊥) → Fine joins c (lentHeld lent r .number) (fieldsOf lent r) →
+  same-record : (lent : List ℕ) (at : ℕ) (r : Record) → (lentHeld lent r .number ≡ 0 → ⊥) → Fine c (lentHeld lent r .number) (fieldsOf lent r) →
       recordOf (lentHeld lent r .number) at (fieldsOf lent r) ≡ moved at (fieldsOf lent r) r
-  unfolding moved recordOf rules rulesFrom typed
+  unfolding moved recordOf recordFrom rules rulesFrom typed
   same-record lent at (Issue x) z w =
       let d : dateIn (readDate (dateField (x .date))) ≡ x .date =
-      date-value (x .date) (readDate (dateField (x .date))) refl (day-read joins c (dateField (x .date)) (w .passes 0 (omega arith))) in
+      date-value (x .date) (readDate (dateField (x .date))) refl (day-read c (dateField (x .date)) (w .passes 0 (omega arith))) in
       λ i. Issue (record { date = d i })
   same-record lent at (Rp x) z w =
       λ i. Rp
@@ -253,34 +253,34 @@ module _ (joins : Supplement → Bool) (c : Sofar) where
       kept-same n fs y = cases (typed n) (λ e. absurd (y (rw e))) (λ e. rw e (kept-is n at fs e))
 
   -- the number that a record is written with is read as it, where it may follow
-  number-read : (n : ℕ) → follow (c .last) (numberIn (readNumber 1 999 (printNumber n))) ≡ 0 → numberIn (readNumber 1 999 (printNumber n)) ≡ n
+  number-read : (n : ℕ) → follow last (numberIn (readNumber 1 999 (printNumber n))) ≡ 0 → numberIn (readNumber 1 999 (printNumber n)) ≡ n
   unfolding readNumber
   number-read n h =
       cases (shortest (printNumber n) && (leb 1 (value 0 (printNumber n)) && leb (value 0 (printNumber n)) 999))
-      (λ e. simp e (number-value n)) (λ e. not-0 joins c (simp e at h))
+      (λ e. simp e (number-value n)) (λ e. not-0 last c (simp e at h))
 
-  module _ (at : ℕ) (lent : List ℕ) (r q : Record) (h : readParts joins c at (parts (lentHeld lent r)) ≡ Took q) where
+  module _ (at : ℕ) (lent : List ℕ) (r q : Record) (h : readParts last c at (parts (lentHeld lent r)) ≡ Took q) where
     -- where the first field begins
     abbrev from : ℕ
     from = at + length (printNumber (lentHeld lent r .number)) + 1
 
     -- the record is taken with its own number
-    own : Taken joins c (lentHeld lent r .number) from (fieldsOf lent r) q
+    own : Taken last c (lentHeld lent r .number) from (fieldsOf lent r) q
     unfolding readParts
     own =
         let n : ℕ = lentHeld lent r .number in
-        let t = taken joins c at (numberIn (readNumber 1 999 (printNumber (lentHeld lent r .number)))) from (fieldsOf lent r) q h in
-        subst (λ (m : ℕ). Taken joins c m from (fieldsOf lent r) q) (number-read (lentHeld lent r .number) (t .follows)) t
+        let t = taken last c at (numberIn (readNumber 1 999 (printNumber (lentHeld lent r .number)))) from (fieldsOf lent r) q h in
+        subst (λ (m : ℕ). Taken last c m from (fieldsOf lent r) q) (number-read (lentHeld lent r .number) (t .follows)) t
 
     some-number : lentHeld lent r .number ≡ 0 → ⊥
-    some-number z = not-0 joins c (subst (λ (m : ℕ). follow (c .last) m ≡ 0) z (own .follows))
+    some-number z = not-0 last c (subst (λ (m : ℕ). follow last m ≡ 0) z (own .follows))
 
     is-moved : moved from (fieldsOf lent r) r ≡ q
     is-moved = sym (same-record lent from r some-number (own .fine)) ∙ own .is
 
     -- What is read from a record's parts leaves what the record leaves,
-    pub same-after : after c q ≡ after c r
-    same-after = ap (after c) (sym is-moved) ∙ leaves-same c from (fieldsOf lent r) r
+    pub same-after : after (c .before) q ≡ after (c .before) r
+    same-after = ap (after (c .before)) (sym is-moved) ∙ leaves-same (c .before) from (fieldsOf lent r) r
 
     -- also of the RP's supplements,
     pub same-supplements : (xs : List Supplement) → supplements xs q ≡ supplements xs r
@@ -295,8 +295,8 @@ module _ (joins : Supplement → Bool) (c : Sofar) where
     -- and the line's fields are these parts.
     pub split-parts : split (printRecord (lentHeld lent r)) ≡ parts (lentHeld lent r)
     unfolding printRecord
-    split-parts = split-join (parts (lentHeld lent r)) (omega arith) (plain.plain-parts joins c at (parts (lentHeld lent r)) q h .commas)
+    split-parts = split-join (parts (lentHeld lent r)) (omega arith) (plain.plain-parts last c at (parts (lentHeld lent r)) q h .commas)
 
     pub plain-line : plainLine (printRecord (lentHeld lent r)) ≡ true
     unfolding printRecord
-    plain-line = plain.plain-parts joins c at (parts (lentHeld lent r)) q h .line
+    plain-line = plain.plain-parts last c at (parts (lentHeld lent r)) q h .line

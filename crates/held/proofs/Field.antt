@@ -25,51 +25,50 @@ use Rattle.supplement.specs.Supplement.{tests, says as saysSupplement, readSupp
 use Rattle.supplement.specs.declared.Supplement.{Supplement}
 use Rattle.printed.specs.Printed.{dateField}
 use Rattle.printed.proofs.Laws.{date-held, usage-held, supplement-held}
-use Rattle.field.specs.Field.{rule, free, required, isEmpty, isTaken, numberOf, valued, faultIn, codeFault, wrong}
+use Rattle.field.specs.Field.{Context, rule, free, required, isEmpty, isTaken, writtenNumber, valued, faultIn, codeFault, wrong}
 use Rattle.field.specs.declared.Rule.{Rule}
-use Rattle.field.specs.declared.Sofar.{Sofar}
 use Rattle.field.proofs.Laws.{passes, empty-only}
-use Rattle.record_line.specs.Fields.{dateIn, usageIn, supplementIn}
+use Rattle.record.specs.Record.{dateIn, usageIn, supplementIn}
 use Rattle.held.specs.Held.{number, amount, day, usageValue, supplementValue, optional, print}
 
 -- ---- what the tests of a field tell
-module _ (joins : Supplement → Bool) (c : Sofar) where
+module _ (c : Context) where
   -- A filled field that passes has its form,
-  formed : (r : Rule) (b : ℕ) (f : List ℕ) → wrong joins c r (b ∷ f) ≡ 0 → valued r (b ∷ f) ≡ true
-  formed r b f h = passes joins c r (b ∷ f) h refl .1
+  formed : (r : Rule) (b : ℕ) (f : List ℕ) → wrong c r (b ∷ f) .number ≡ 0 → valued r (b ∷ f) ≡ true
+  formed r b f h = passes c r (b ∷ f) h refl .1
 
   -- its code is taken,
-  pub coded : (r : Rule) (f : List ℕ) → isEmpty f ≡ false → wrong joins c r f ≡ 0 → codeFault r f .number ≡ 0
-  coded r f e h = passes joins c r f h e .3
+  pub coded : (r : Rule) (f : List ℕ) → isEmpty f ≡ false → wrong c r f .number ≡ 0 → codeFault r f .number ≡ 0
+  coded r f e h = passes c r f h e .3
 
   -- and one that is required is not empty.
-  not-empty : {P : Type 0} (form lo hi : ℕ) → wrong joins c (rule required form lo hi) [] ≡ 0 → P
+  not-empty : {P : Type 0} (form lo hi : ℕ) → wrong c (rule required form lo hi) [] .number ≡ 0 → P
   not-empty form lo hi h =
-      absurd (let e : false ≡ true = empty-only joins c (rule required form lo hi) h in let z : _≡_ {A = ℕ} 0 1 = cc in omega arith)
+      absurd (let e : false ≡ true = empty-only c (rule required form lo hi) h in let z : _≡_ {A = ℕ} 0 1 = cc in omega arith)
 
   -- So a date that is required is one.
-  pub day-read : (f : List ℕ) → wrong joins c (rule required 2 0 0) f ≡ 0 → isTaken (readDate f) ≡ true
+  pub day-read : (f : List ℕ) → wrong c (rule required 2 0 0) f .number ≡ 0 → isTaken (readDate f) ≡ true
   unfolding valued
   day-read [] h = not-empty 2 0 0 h
   day-read (b ∷ f) h = formed _ b f h
 
 -- ---- form by form, of a filled field
 -- a number in its range
-taken-number : (lo hi : ℕ) (f : List ℕ) → isTaken (readNumber lo hi f) ≡ true → readNumber lo hi f ≡ took (numberOf f)
+taken-number : (lo hi : ℕ) (f : List ℕ) → isTaken (readNumber lo hi f) ≡ true → readNumber lo hi f ≡ took (writtenNumber f)
 unfolding readNumber
 taken-number lo hi f h =
     cases (shortest f && (leb lo (value 0 f) && leb (value 0 f) hi)) (λ e. simp e)
     (λ e. absurd (let k = simp e at h in let z : _≡_ {A = ℕ} 0 1 = cc in omega arith))
 
-at-least : (lo hi : ℕ) (f : List ℕ) → isTaken (readNumber lo hi f) ≡ true → lo ≤ numberOf f
+at-least : (lo hi : ℕ) (f : List ℕ) → isTaken (readNumber lo hi f) ≡ true → lo ≤ writtenNumber f
 unfolding readNumber
 at-least lo hi f h =
     cases (shortest f && (leb lo (value 0 f) && leb (value 0 f) hi))
     (λ e. leb-true lo (value 0 f) (and-parts (leb lo (value 0 f)) _ (and-parts (shortest f) _ e .1) .0))
     (λ e. absurd (let k = simp e at h in let z : _≡_ {A = ℕ} 0 1 = cc in omega arith))
 
-number-is : (lo hi : ℕ) (f : List ℕ) → isTaken (readNumber lo hi f) ≡ true → printNumber (numberOf f) ≡ f
-number-is lo hi f h = numbers.back lo hi (numberOf f) f (taken-number lo hi f h)
+number-is : (lo hi : ℕ) (f : List ℕ) → isTaken (readNumber lo hi f) ≡ true → printNumber (writtenNumber f) ≡ f
+number-is lo hi f h = numbers.back lo hi (writtenNumber f) f (taken-number lo hi f h)
 
 -- an amount
 amount-is : (f : List ℕ) → isTaken (readAmount f) ≡ true → printAmount (hundredThousandths f) ≡ f
@@ -122,39 +121,39 @@ supplement-is f (took x) e h = supplement-held f x e
 supplement-is f (refused n p) e h = absurd (refused-supplement f n p e h)
 
 -- ---- form by form, of a field that passes
-module _ (joins : Supplement → Bool) (c : Sofar) where
+module _ (c : Context) where
   -- A number that is required, in any of its forms;
   pub number-back : (form lo hi : ℕ) → ((f : List ℕ) → valued (rule required form lo hi) f ≡ true → isTaken (readNumber lo hi f) ≡ true) →
-      (f : List ℕ) → wrong joins c (rule required form lo hi) f ≡ 0 → print (number (numberOf f)) ≡ f
-  number-back form lo hi is [] h = not-empty joins c form lo hi h
-  number-back form lo hi is (b ∷ f) h = number-is lo hi (b ∷ f) (is (b ∷ f) (formed joins c _ b f h))
+      (f : List ℕ) → wrong c (rule required form lo hi) f .number ≡ 0 → print (number (writtenNumber f)) ≡ f
+  number-back form lo hi is [] h = not-empty c form lo hi h
+  number-back form lo hi is (b ∷ f) h = number-is lo hi (b ∷ f) (is (b ∷ f) (formed c _ b f h))
 
   -- one that may be empty, and is 1 or more where it is not;
-  pub optional-back : (hi : ℕ) (f : List ℕ) → wrong joins c (rule free 7 1 hi) f ≡ 0 → print (optional (numberOf f)) ≡ f
+  pub optional-back : (hi : ℕ) (f : List ℕ) → wrong c (rule free 7 1 hi) f .number ≡ 0 → print (optional (writtenNumber f)) ≡ f
   unfolding valued value
   optional-back hi [] h = refl
   optional-back hi (b ∷ f) h =
-      let v : isTaken (readNumber 1 hi (b ∷ f)) ≡ true = formed joins c _ b f h in
-      let l : 1 ≤ numberOf (b ∷ f) = at-least 1 hi (b ∷ f) v in
-      rw (ne-eqb (numberOf (b ∷ f)) 0 (omega arith)) (number-is 1 hi (b ∷ f) v)
+      let v : isTaken (readNumber 1 hi (b ∷ f)) ≡ true = formed c _ b f h in
+      let l : 1 ≤ writtenNumber (b ∷ f) = at-least 1 hi (b ∷ f) v in
+      rw (ne-eqb (writtenNumber (b ∷ f)) 0 (omega arith)) (number-is 1 hi (b ∷ f) v)
 
   -- an amount and a date;
-  pub amount-back : (f : List ℕ) → wrong joins c (rule required 6 0 0) f ≡ 0 → print (amount (hundredThousandths f)) ≡ f
+  pub amount-back : (f : List ℕ) → wrong c (rule required 6 0 0) f .number ≡ 0 → print (amount (hundredThousandths f)) ≡ f
   unfolding valued
-  amount-back [] h = not-empty joins c 6 0 0 h
-  amount-back (b ∷ f) h = amount-is (b ∷ f) (formed joins c _ b f h)
+  amount-back [] h = not-empty c 6 0 0 h
+  amount-back (b ∷ f) h = amount-is (b ∷ f) (formed c _ b f h)
 
-  pub date-back : (f : List ℕ) → wrong joins c (rule required 2 0 0) f ≡ 0 → print (day (dateIn (readDate f))) ≡ f
-  date-back f h = date-is f (readDate f) refl (day-read joins c f h)
+  pub date-back : (f : List ℕ) → wrong c (rule required 2 0 0) f .number ≡ 0 → print (day (dateIn (readDate f))) ≡ f
+  date-back f h = date-is f (readDate f) refl (day-read c f h)
 
   -- a usage code and a supplement, whether they are needed or not.
-  pub usage-back : (need : ℕ) (f : List ℕ) → wrong joins c (rule need 4 0 0) f ≡ 0 → print (usageValue (usageIn (readUsage f))) ≡ f
+  pub usage-back : (need : ℕ) (f : List ℕ) → wrong c (rule need 4 0 0) f .number ≡ 0 → print (usageValue (usageIn (readUsage f))) ≡ f
   unfolding codeFault readUsage
   usage-back need [] h = refl
-  usage-back need (b ∷ f) h = usage-is (b ∷ f) (readUsage (b ∷ f)) refl (coded joins c _ (b ∷ f) refl h)
+  usage-back need (b ∷ f) h = usage-is (b ∷ f) (readUsage (b ∷ f)) refl (coded c _ (b ∷ f) refl h)
 
-  pub supplement-back : (need : ℕ) (f : List ℕ) → wrong joins c (rule need 5 0 0) f ≡ 0 →
+  pub supplement-back : (need : ℕ) (f : List ℕ) → wrong c (rule need 5 0 0) f .number ≡ 0 →
       print (supplementValue (supplementIn (readSupplement f))) ≡ f
   unfolding codeFault readSupplement
   supplement-back need [] h = refl
-  supplement-back need (b ∷ f) h = supplement-is (b ∷ f) (readSupplement (b ∷ f)) refl (coded joins c _ (b ∷ f) refl h)
+  supplement-back need (b ∷ f) h = supplement-is (b ∷ f) (readSupplement (b ∷ f)) refl (coded c _ (b ∷ f) refl h)

@@ -12,7 +12,7 @@ use Rattle.cells.proofs.Split.{split as cases}
 use Rattle.line.specs.Frame.{plainLine, file}
 use Rattle.line.specs.Fields.{split, join, noCommas}
 use Rattle.supplement.specs.declared.Supplement.{Supplement}
-use Rattle.field.specs.declared.Sofar.{Sofar}
+use Rattle.field.specs.Field.{Context}
 use Rattle.record.specs.Record.{start, after, supplements}
 use Rattle.record_line.specs.Line.{readParts}
 use Rattle.record.specs.declared.Record.{Record}
@@ -27,14 +27,14 @@ use Rattle.held.proofs.Again as again-laws
 use Rattle.held.proofs.File.{never-whole, lines-back}
 
 -- A record that is taken from the parts of a line, which stand in the file where it begins, is written as these parts with commas between them.
-pub record-back : (joins : Supplement → Bool) (c : Sofar) (s : List ℕ) (at : ℕ) (ps : List (List ℕ)) (rest : List ℕ) (r : Record) →
-    readParts joins c at ps ≡ Took r → drop at s ≡ join ps ++ rest → printRecord (held s r) ≡ join ps
-record-back joins c s at ps rest r = records.record-back joins c s at rest r ps
+pub record-back : (last : ℕ) (c : Context) (s : List ℕ) (at : ℕ) (ps : List (List ℕ)) (rest : List ℕ) (r : Record) →
+    readParts last c at ps ≡ Took r → drop at s ≡ join ps ++ rest → printRecord (held s r) ≡ join ps
+record-back last c s at ps rest r = records.record-back last c s at rest r ps
 
 -- The same where the file is lent beside it: so what was read can be put again.
-pub lent-back : (joins : Supplement → Bool) (c : Sofar) (s : List ℕ) (at : ℕ) (ps : List (List ℕ)) (rest : List ℕ) (r : Record) →
-    readParts joins c at ps ≡ Took r → drop at s ≡ join ps ++ rest → at + length (join ps) ≤ length s → parts (lentHeld s r) ≡ ps
-lent-back joins c s at ps rest r = records.lent-back joins c s at rest r ps
+pub lent-back : (last : ℕ) (c : Context) (s : List ℕ) (at : ℕ) (ps : List (List ℕ)) (rest : List ℕ) (r : Record) →
+    readParts last c at ps ≡ Took r → drop at s ≡ join ps ++ rest → at + length (join ps) ≤ length s → parts (lentHeld s r) ≡ ps
+lent-back last c s at ps rest r = records.lent-back last c s at rest r ps
 
 -- the lines after the version line
 read-back : (s : List ℕ) → readFile s .ending ≡ whole → printFile (map (held s) (readFile s .records)) ≡ s
@@ -56,23 +56,23 @@ pub one-file : (s t : List ℕ) (rs qs : List Record) → readFile s ≡ taken r
 one-file s t rs qs h k e = sym (back s rs h) ∙ ap printFile e ∙ back t qs k
 
 -- ---- what was written, read again
-module _ (joins : Supplement → Bool) (c : Sofar) (at : ℕ) (lent : List ℕ) (r q : Record) (h : readParts joins c at (parts (lentHeld lent r)) ≡ Took q) where
+module _ (last : ℕ) (c : Context) (at : ℕ) (lent : List ℕ) (r q : Record) (h : readParts last c at (parts (lentHeld lent r)) ≡ Took q) where
   -- Where the reader takes the parts that a record is written as, none of them has a comma, and the line is one of a file;
   pub plain-parts : (noCommas (parts (lentHeld lent r)) ≡ true) × (plainLine (printRecord (lentHeld lent r)) ≡ true)
-  plain-parts = (plain.plain-parts joins c at (parts (lentHeld lent r)) q h .commas, again-laws.plain-line joins c at lent r q h)
+  plain-parts = (plain.plain-parts last c at (parts (lentHeld lent r)) q h .commas, again-laws.plain-line last c at lent r q h)
 
   -- so the line's fields are these parts.
   pub split-parts : split (printRecord (lentHeld lent r)) ≡ parts (lentHeld lent r)
-  split-parts = again-laws.split-parts joins c at lent r q h
+  split-parts = again-laws.split-parts last c at lent r q h
 
   -- The record that is read from them leaves what the record that was written leaves,
-  pub same-after : after c q ≡ after c r
-  same-after = again-laws.same-after joins c at lent r q h
+  pub same-after : after (c .before) q ≡ after (c .before) r
+  same-after = again-laws.same-after last c at lent r q h
 
   -- also of the RP's supplements;
   pub same-supplements : (xs : List Supplement) → supplements xs q ≡ supplements xs r
-  same-supplements = again-laws.same-supplements joins c at lent r q h
+  same-supplements = again-laws.same-supplements last c at lent r q h
 
   -- and it holds what was written, where the line stands in the file.
   pub again : (s rest : List ℕ) → drop at s ≡ join (parts (lentHeld lent r)) ++ rest → held s q ≡ lentHeld lent r
-  again = again-laws.again joins c at lent r q h
+  again = again-laws.again last c at lent r q h

@@ -20,9 +20,8 @@ use Rattle.usage.specs.declared.Instruction.{Instruction}
 use Rattle.supplement.specs.Supplement.{readSupplement}
 use Rattle.supplement.specs.declared.Supplement.{Supplement}
 use Rattle.order.specs.Next.{follow}
-use Rattle.field.specs.Field.{fits, valued, faultIn, codeFault, isTaken, wrong}
+use Rattle.field.specs.Field.{Context, fits, valued, faultIn, codeFault, isTaken, wrong}
 use Rattle.field.specs.declared.Rule.{Rule}
-use Rattle.field.specs.declared.Sofar.{Sofar}
 use Rattle.record_line.specs.Line.{numberIn, readParts}
 use Rattle.record.specs.declared.Record.{Record}
 use Rattle.record.specs.declared.Answer.the-variants.{Took}
@@ -73,9 +72,9 @@ module _ (r : Rule) (f : List ℕ) (t : fits r f ≡ true) (v : valued r f ≡ t
       (λ m. number-fit (r .lo) (r .hi) f (simp (b, d, e, g, i, j, m) at v)))))))
 
 -- A field that passes its rule.
-field-fit : (joins : Supplement → Bool) (c : Sofar) (r : Rule) (f : List ℕ) → wrong joins c r f ≡ 0 → Fit f
-field-fit joins c r [] h = fit-none
-field-fit joins c r (b ∷ f) h = let p = passes joins c r (b ∷ f) h refl in form-fit r (b ∷ f) (p .0) (p .1) (p .3)
+field-fit : (c : Context) (r : Rule) (f : List ℕ) → wrong c r f .number ≡ 0 → Fit f
+field-fit c r [] h = fit-none
+field-fit c r (b ∷ f) h = let p = passes c r (b ∷ f) h refl in form-fit r (b ∷ f) (p .0) (p .1) (p .3)
 
 -- ---- parts
 -- Parts of which every one is fit: none has a comma, and with commas between them they are a line.
@@ -99,20 +98,20 @@ unfolding noCommas join plainLine
 all-parts [] h = record { commas = refl; line = refl }
 all-parts (f ∷ fs) h = more-parts f fs (h 0 (omega arith)) (all-parts fs (λ j l. h (suc j) (omega arith)))
 
-module _ (joins : Supplement → Bool) (c : Sofar) where
+module _ (last : ℕ) (c : Context) where
   -- the fields of a record that is taken
-  pub row-fits : (n : ℕ) (fs : List (List ℕ)) → Fine joins c n fs → Fits fs
-  row-fits n fs w = all-parts fs (λ j l. field-fit joins c _ (getD fs j []) (w .passes j l))
+  pub row-fits : (n : ℕ) (fs : List (List ℕ)) → Fine c n fs → Fits fs
+  row-fits n fs w = all-parts fs (λ j l. field-fit c _ (getD fs j []) (w .passes j l))
 
   -- and its number
-  number-part : (p : List ℕ) (m : Answer ℕ) → readNumber 1 999 p ≡ m → follow (c .last) (numberIn m) ≡ 0 → Fit p
+  number-part : (p : List ℕ) (m : Answer ℕ) → readNumber 1 999 p ≡ m → follow last (numberIn m) ≡ 0 → Fit p
   number-part p (took n) e h = number-fit 1 999 p (ap isTaken e)
-  number-part p (refused k q) e h = not-0 joins c h
+  number-part p (refused k q) e h = not-0 last c h
 
   -- The parts of a line that is taken.
-  pub plain-parts : (at : ℕ) (ps : List (List ℕ)) (q : Record) → readParts joins c at ps ≡ Took q → Fits ps
+  pub plain-parts : (at : ℕ) (ps : List (List ℕ)) (q : Record) → readParts last c at ps ≡ Took q → Fits ps
   unfolding readParts readNumber shortest
-  plain-parts at [] q h = not-0 joins c (taken joins c at 0 _ [] q h .follows)
+  plain-parts at [] q h = not-0 last c (taken last c at 0 _ [] q h .follows)
   plain-parts at (p ∷ fs) q h =
-      let t = taken joins c at (numberIn (readNumber 1 999 p)) (at + length p + 1) fs q h in
+      let t = taken last c at (numberIn (readNumber 1 999 p)) (at + length p + 1) fs q h in
       more-parts p fs (number-part p (readNumber 1 999 p) refl (t .follows)) (row-fits _ fs (t .fine))

@@ -12,8 +12,7 @@ use lib.Seq.{drop-cons}
 use Rattle.cells.proofs.Split.{split as cases}
 use Rattle.cells.proofs.Alike.{and-left}
 use Rattle.supplement.specs.declared.Supplement.{Supplement}
-use Rattle.field.specs.Field.{rule, wrong}
-use Rattle.field.specs.declared.Sofar.{Sofar}
+use Rattle.field.specs.Field.{Context, rule, wrong}
 use Rattle.row.specs.Table.{rules, counted}
 use Rattle.row.specs.Row.{readRow}
 use Rattle.row.proofs.Each.{as-many, right-fields}
@@ -33,21 +32,21 @@ placed-from (suc n) k fs l =
 pub by-places : (n : ℕ) (fs : List (List ℕ)) → length fs ≡ n → placed n 0 fs ≡ fs
 by-places n fs l = placed-from n 0 fs (omega arith)
 
-module _ (joins : Supplement → Bool) (c : Sofar) where
+module _ (c : Context) where
   -- The fields of a record of this number, none of them wrong.
   pub record Fine (n : ℕ) (fs : List (List ℕ)) : Type 0 where
     pub some : 1 ≤ length fs
     pub count : length fs ≡ length (rules n fs)
-    pub passes : (j : ℕ) → j < length fs → wrong joins c (getD (rules n fs) j (rule 0 0 0 0)) (getD fs j []) ≡ 0
+    pub passes : (j : ℕ) → j < length fs → wrong c (getD (rules n fs) j (rule 0 0 0 0)) (getD fs j []) .number ≡ 0
 
   -- A row with no fault is so.
-  pub row-fine : (n at : ℕ) (fs : List (List ℕ)) → readRow joins c n at fs .number ≡ 0 → Fine n fs
+  pub row-fine : (n at : ℕ) (fs : List (List ℕ)) → readRow c n at fs .fault .number ≡ 0 → Fine n fs
   unfolding readRow counted
   row-fine n at fs h =
       cases (counted n fs)
       (λ e. record {
         some = leb-true 1 (length fs) (and-left (leb 1 (length fs)) _ e);
-        count = as-many joins c n at fs h;
-        passes = λ j l. right-fields joins c n at fs h j (rule 0 0 0 0) l;
+        count = as-many c n at fs h;
+        passes = λ j l. right-fields c n at fs h j (rule 0 0 0 0) l;
       })
       (λ e. absurd (let z : _≡_ {A = ℕ} 25 0 = simp e at h in omega arith))

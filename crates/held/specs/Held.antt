@@ -12,10 +12,11 @@ use Rattle.number.specs.Print.{printNumber, printAmount}
 use Rattle.date.specs.declared.Date.{Date}
 use Rattle.usage.specs.declared.Instruction.{Instruction}
 use Rattle.supplement.specs.declared.Supplement.{Supplement}
-use Rattle.laid.specs.Laid.{noField, textOr}
+use Rattle.text.specs.Lent.{noField, textOr}
 use Rattle.printed.specs.Printed.{dateField, usageField, supplementField}
 use Rattle.row.specs.Table.{typed}
-use Rattle.record.specs.Record.{textAt}
+use Rattle.record.specs.Record.{textAt, numberOf, Column, columns}
+use Rattle.record.specs.Record as column
 use Rattle.record.specs.declared.Place.{Place}
 use Rattle.record.specs.declared.UsageCode.{UsageCode}
 use Rattle.record.specs.declared.UsageCode.the-variants.{Is as usageIs, Empty as noUsage}
@@ -57,32 +58,28 @@ supplementValue noSupplement = none
 abbrev pub holding : ℕ → List Value → Held
 holding n vs = record { number = n; values = vs }
 
--- What a record holds, in the order of document 01's table, where its texts' places are read by `read`. A kept record's number is one that has no line
--- in the table; any other is no record's number to it, which is 0.
+-- What a column holds, where a text's place is read by `read`.
+abbrev pub valueOf : (Place → List ℕ) → Column → Value
+valueOf read (column.Column.number n) = number n
+valueOf read (column.Column.optional n) = optional n
+valueOf read (column.Column.amount n) = amount n
+valueOf read (column.Column.text p) = text (read p)
+valueOf read (column.Column.day t) = day t
+valueOf read (column.Column.usage k) = usageValue k
+valueOf read (column.Column.supplement k) = supplementValue k
+
+-- What a typed record holds: its columns, in the order of document 01's table.
+abbrev pub byColumns : (Place → List ℕ) → Record → Held
+byColumns read r = holding (numberOf r) (map (valueOf read) (columns r))
+
+-- What a record holds. A kept record's number is one that has no line in the table; any other is no record's number to it, which is 0. Its fields are those
+-- between the commas.
 abbrev pub heldBy : (Place → List ℕ) → Record → Held
-heldBy read (Issue x) = holding 51 (day (x .date) ∷ [])
-heldBy read (Rp x) = holding 101 (number (x .rp .0) ∷ number (x .form) ∷ text (read (x .name)) ∷ number (x .quantity) ∷ [])
-heldBy read (Usage x) =
-    holding 111 (number (x .rp .0) ∷ number (x .kind) ∷ usageValue (x .code) ∷ text (read (x .name)) ∷ optional (x .times) ∷ [])
-heldBy read (Supply x) =
-    holding 181
-    (number (x .rp .0) ∷
-    number (x .serial .0) ∷
-    optional (x .kind) ∷
-    text (read (x .text)) ∷
-    supplementValue (x .code) ∷
-    text (read (x .site)) ∷ [])
-heldBy read (Drug x) =
-    holding 201
-    (number (x .rp .0) ∷
-    number (x .serial .0) ∷
-    optional (x .kind) ∷
-    number (x .coding) ∷
-    text (read (x .code)) ∷
-    text (read (x .name)) ∷
-    amount (x .amount) ∷
-    number (x .flag) ∷
-    text (read (x .unit)) ∷ [])
+heldBy read (Issue x) = byColumns read (Issue x)
+heldBy read (Rp x) = byColumns read (Rp x)
+heldBy read (Usage x) = byColumns read (Usage x)
+heldBy read (Supply x) = byColumns read (Supply x)
+heldBy read (Drug x) = byColumns read (Drug x)
 heldBy read (Kept x) = holding (cond (typed (x .number)) 0 (x .number)) (map text (split (read (x .fields))))
 
 -- What a record of the file s holds.

@@ -9,6 +9,7 @@ use borrow.Author.Tests.{eqb-true, leb-true, le-leb}
 use lib.Dec.{leb, eqb}
 use lib.ListN.{length, drop}
 use lib.Seq.{take-length}
+use Rattle.cells.specs.Limits.{fileMost}
 use Rattle.cells.specs.Text.{bytes}
 use Rattle.cells.specs.Test.{first}
 use Rattle.cells.proofs.Split.{split as cases}
@@ -31,14 +32,14 @@ use Rattle.writer.proofs.ReadBack.{linesFor, put-stands, put-length, Pu
 
 -- ---- writing back what was read
 -- nothing is kept before the first record
-keeps-start : Keeps start []
+keeps-start : Keeps (start .before) []
 unfolding start
 keeps-start = record { listed = nothing-kept 0; keeps = refl }
 
 -- a file that passes its tests is not too long
-pub not-long : (s : List ℕ) → fileFault s .number ≡ 0 → length s ≤ 16384
+pub not-long : (s : List ℕ) → fileFault s .number ≡ 0 → length s ≤ fileMost
 unfolding fileFault
-not-long s h = leb-true (length s) 16384 (passed (leb (length s) 16384) 20 0 _ (λ z. omega arith) h .0)
+not-long s h = leb-true (length s) fileMost (passed (leb (length s) fileMost) 20 0 _ (λ z. omega arith) h .0)
 
 whole-back : (s out : List ℕ) → readFile s .ending ≡ whole → length s ≤ length out →
     writeFile out (map (item s) (readFile s .records)) ≡ done (length s) true (afterAll start (readFile s .records)) (s ++ drop (length s) out)
@@ -47,7 +48,7 @@ whole-back s out h l =
     cases (eqb (fileFault s .number) 0)
     (λ e. let z : fileFault s .number ≡ 0 = eqb-true _ _ e in
     let o = opens s z in
-    let m : length s ≤ 16384 = not-long s z in
+    let m : length s ≤ fileMost = not-long s z in
     let rs : List Record = readLines 8 start [] (o .rest) .records in
     let w : readLines 8 start [] (o .rest) .ending ≡ whole = simp (e, o .lines) at h in
     simp (e, o .lines)
@@ -67,15 +68,15 @@ write-back s rs out h l =
 
 -- ---- reading what was written
 -- lines after the version line make a file that passes 20, 21 and 22
-no-fault : (ls : List (List ℕ)) → plainLines ls ≡ true → 8 + length (file ls) ≤ 16384 → fileFault (file (bytes "JAHIS5" ∷ ls)) .number ≡ 0
+no-fault : (ls : List (List ℕ)) → plainLines ls ≡ true → 8 + length (file ls) ≤ fileMost → fileFault (file (bytes "JAHIS5" ∷ ls)) .number ≡ 0
 unfolding fileFault first versionLine bytes file plainLines plainLine plain
 no-fault ls h l =
     let t : List ℕ = file (bytes "JAHIS5" ∷ ls) in
     let f : frameFault (file (bytes "JAHIS5" ∷ ls)) .number ≡ 0 = framed t .1 (record { lines = bytes "JAHIS5" ∷ ls; some = omega arith; plain = h; bytes = refl }) in
-    rw (le-leb (length t) 16384 (omega arith), f)
+    rw (le-leb (length t) fileMost (omega arith), f)
 
 -- They are read from offset 8 on.
-pub lines-read : (ls : List (List ℕ)) → plainLines ls ≡ true → 8 + length (file ls) ≤ 16384 → readFile (file (bytes "JAHIS5" ∷ ls)) ≡ readLines 8 start [] ls
+pub lines-read : (ls : List (List ℕ)) → plainLines ls ≡ true → 8 + length (file ls) ≤ fileMost → readFile (file (bytes "JAHIS5" ∷ ls)) ≡ readLines 8 start [] ls
 unfolding readFile plainLines plainLine plain bytes
 lines-read ls h l = rw (no-fault ls h l) (ap (λ (k : List (List ℕ)). readLines 8 start [] (drop 1 k)) (lines-of (bytes "JAHIS5" ∷ ls) h))
 

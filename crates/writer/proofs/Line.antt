@@ -9,27 +9,26 @@ use borrow.Author.Tests.{eq-eqb, ne-eqb}
 use lib.Dec.{eqb, leb}
 use lib.ListN.{length, take, drop, length-append}
 use lib.Seq.{sets, sets-eq}
+use Rattle.cells.specs.Limits.{fileMost}
 use Rattle.line.specs.Fields.{join}
-use Rattle.supplement.specs.declared.Supplement.{Supplement}
-use Rattle.field.specs.declared.Sofar.{Sofar}
+use Rattle.record.specs.declared.Sofar.{Sofar}
 use Rattle.record.specs.declared.Record.{Record}
 use Rattle.record.specs.declared.Refusal.{Refusal}
 use Rattle.record.specs.declared.Answer.{Answer}
 use Rattle.record.specs.declared.Answer.the-variants.{Took, Refused}
 use Rattle.held.specs.Held.{lentHeld, printRecord}
-use Rattle.entry.specs.Entry.{partList, numberIn, entryOf}
+use Rattle.entry.specs.Entry.{partList, Parts, partsOf, numberIn}
 use Rattle.laid.specs.Laid.{Laid, partAt, separatorOf, lineFrom, lineOf, roomFor}
-use Rattle.entry.specs.Code.Judge.{laidIn, partsOf, partsFrom}
-use Rattle.entry.specs.declared.Entry.{Entry}
+use Rattle.entry.specs.Code.Judge.{laidIn, partsFrom}
 use Rattle.entry.proofs.Laws.{line-of, few}
 use Rattle.writer.specs.Writer.{refuses, putAt, room, ended, putLine, onAnswer}
 use Rattle.writer.specs.declared.State.{State}
 
 -- A record is put where the reader's number for it is 0, and else refused with that number.
-pub on-number : (out : List ℕ) (t : State) (a : Answer) (l : List ℕ) (c : Sofar) → ((f : Refusal) → a ≡ Refused f → f .number ≡ 0 → ⊥) →
+pub on-number : (out : List ℕ) (t : State) (a : Answer) (l : List ℕ) (c : Sofar) → ((f : Refusal) → a ≡ Refused f → f .fault .number ≡ 0 → ⊥) →
     onAnswer out t a l c ≡ cond (eqb (numberIn a) 0) (putLine out t l c) (refuses out t 34 (numberIn a))
 on-number out t (Took r) l c h = refl
-on-number out t (Refused f) l c h = let e : eqb (f .number) 0 ≡ false = ne-eqb (f .number) 0 (h f refl) in simp e
+on-number out t (Refused f) l c h = let e : eqb (f .fault .number) 0 ≡ false = ne-eqb (f .fault .number) 0 (h f refl) in simp e
 
 -- ---- the line
 -- parts put one by one, with their commas and the end of the line
@@ -47,21 +46,20 @@ line-all : (lent : List ℕ) (p : Laid) (n : ℕ) → 1 ≤ n → lineOf lent p 
 line-all lent p zero l = absurd (omega arith)
 line-all lent p (suc n) l = line-from lent p n 0
 
--- The line of an entry's parts,
-abbrev pub entryLine : List ℕ → Entry → List ℕ
-entryLine lent e = lineOf lent (laidIn e) (e .count)
+-- The line of some parts,
+abbrev pub partsLine : List ℕ → Parts → List ℕ
+partsLine lent p = lineOf lent (laidIn p) (p .count)
 
--- which is the one that the record is written as.
-pub line-is : (joins : Supplement → Bool) (c : Sofar) (lent : List ℕ) (r : Record) → entryLine lent (entryOf joins c lent r) ≡ ended (printRecord (lentHeld lent r))
-unfolding entryOf
-line-is joins c lent r = line-all lent (laidIn (partsOf r)) (length (partList r)) (few r .0) ∙ ap ended (line-of lent r)
+-- which for a record's is the one that the record is written as.
+pub line-is : (lent : List ℕ) (r : Record) → partsLine lent (partsOf r) ≡ ended (printRecord (lentHeld lent r))
+line-is lent r = line-all lent (laidIn (partsOf r)) (length (partList r)) (few r .0) ∙ ap ended (line-of lent r)
 
 -- Where there is room for a line with its CR LF, there is room for the line.
 pub room-is : (out : List ℕ) (at : ℕ) (l : List ℕ) → roomFor (length out) at (ended l) ≡ room out at l
 unfolding roomFor room
 room-is out at l =
     let n : length (ended l) + 1 ≡ length l + 3 = omega (arith, length-append l (0x0d ∷ 0x0a ∷ [])) in
-    ap (λ (k : ℕ). leb (at + k) (min (length out) 16384)) n
+    ap (λ (k : ℕ). leb (at + k) (min (length out) fileMost)) n
 
 -- Bytes that fit, put one by one, are put at their place.
 pub put-is : (out : List ℕ) (at : ℕ) (l : List ℕ) → at + length l ≤ length out → sets out at l ≡ putAt out at l

@@ -8,6 +8,7 @@ use native.Mathlib.Omega.{arith}
 use borrow.Author.Tests.{le-leb}
 use lib.ListN.{length, take, drop, length-append, length-take, length-drop}
 use lib.Seq.{take-at, take-add, drop-at, drop-drop, length-take-le}
+use Rattle.cells.specs.Limits.{fileMost}
 use Rattle.cells.proofs.Split.{split as cases}
 use Rattle.line.specs.Frame.{file}
 use Rattle.line.specs.Fields.{split, join}
@@ -17,15 +18,17 @@ use Rattle.order.specs.Next.{closes}
 use Rattle.schedule.specs.Schedule.{list}
 use Rattle.schedule.specs.Kept.{mayJoin}
 use Rattle.schedule.proofs.Laws.{decides}
-use Rattle.field.specs.declared.Sofar.{Sofar}
+use Rattle.field.specs.Field.{context}
+use Rattle.field.specs.declared.Before.{Before}
+use Rattle.record.specs.declared.Sofar.{Sofar}
 use Rattle.record.specs.Record.{after, supplements}
 use Rattle.record_line.specs.Line.{readParts}
 use Rattle.record.specs.declared.Record.{Record}
 use Rattle.record.specs.declared.Answer.{Answer}
 use Rattle.record.specs.declared.Answer.the-variants.{Took, Refused}
 use Rattle.record_line.proofs.Same.{same-parts}
-use Rattle.record_line.proofs.Leaves.{Keeps, leaves}
-use Rattle.reader.specs.File.{File, whole, on, readLines}
+use Rattle.record_line.proofs.Leaves.{Keeps, keeps-on}
+use Rattle.reader.specs.File.{File, whole, on, inList, readLines}
 use Rattle.reader.proofs.Lines.{inside, after-line}
 use Rattle.held.specs.Held.{lentHeld, parts, printRecord}
 use Rattle.held.proofs.Laws.{lent-back}
@@ -40,13 +43,13 @@ done at closed c out = record { put = record { number = 0; own = 0; state = stat
 -- What records leave, one after the other.
 abbrev pub afterAll : Sofar → List Record → Sofar
 afterAll c [] = c
-afterAll c (r ∷ rs) = afterAll (after c r) rs
+afterAll c (r ∷ rs) = afterAll (after (c .before) r) rs
 
 -- what is kept decides what the RP's list says
-pub joins-alike : (c : Sofar) (xs : List Supplement) → Keeps c xs → (x : Supplement) → mayJoin (c .month) (c .schedule) x ≡ list (c .month) (xs ++ (x ∷ []))
-joins-alike c xs k x = rw (k .keeps) (decides (c .month) xs x (k .listed))
+pub joins-alike : (b : Before) (xs : List Supplement) → Keeps b xs → (x : Supplement) → mayJoin (b .month) (b .schedule) x ≡ list (b .month) (xs ++ (x ∷ []))
+joins-alike b xs k x = rw (k .keeps) (decides (b .month) xs x (k .listed))
 
-module _ (s out : List ℕ) (fits : length s ≤ length out) (most : length s ≤ 16384) where
+module _ (s out : List ℕ) (fits : length s ≤ length out) (most : length s ≤ fileMost) where
   -- the buffer with the file's first n bytes in it
   abbrev upto : ℕ → List ℕ
   upto n = take n s ++ drop n out
@@ -81,23 +84,22 @@ module _ (s out : List ℕ) (fits : length s ≤ length out) (most : length s �
       let n : length (ended l) ≡ length l + 2 = length-append l (0x0d ∷ 0x0a ∷ []) in
       let g : drop at s ≡ ended l ++ file ls = e ∙ sym (append-assoc l (0x0d ∷ 0x0a ∷ []) (file ls)) in
       let p : putAt (upto at) at (ended l) ≡ upto (at + (length l + 2)) = put-more at (ended l) (file ls) g (omega arith) ∙ ap (λ (k : ℕ). upto (at + k)) n in
-      rw (o, le-leb (at + (length l + 3)) (min (length out) 16384) (omega (arith, some-file ls)))
+      rw (o, le-leb (at + (length l + 3)) (min (length out) fileMost) (omega (arith, some-file ls)))
       (ap (λ (b : List ℕ). done (at + (length l + 2)) false d b) p)
 
   -- a record that was read, put where it stood
-  record-put : (c : Sofar) (xs : List Supplement) → Keeps c xs → (at : ℕ) (l : List ℕ) (ls : List (List ℕ)) (r : Record) → drop at s ≡ file (l ∷ ls) →
-      readParts (λ x. list (c .month) (xs ++ (x ∷ []))) c at (split l) ≡ Took r →
-      putRecord (upto at) (state at false c) r s ≡ done (at + (length l + 2)) false (after c r) (upto (at + (length l + 2)))
+  record-put : (c : Sofar) (xs : List Supplement) → Keeps (c .before) xs → (at : ℕ) (l : List ℕ) (ls : List (List ℕ)) (r : Record) → drop at s ≡ file (l ∷ ls) →
+      readParts (c .last) (inList (c .before) xs) at (split l) ≡ Took r →
+      putRecord (upto at) (state at false c) r s ≡ done (at + (length l + 2)) false (after (c .before) r) (upto (at + (length l + 2)))
   unfolding putRecord printRecord file
   record-put c xs k at l ls r e h =
-      let joins : Supplement → Bool = λ x. list (c .month) (xs ++ (x ∷ [])) in
       let m : at + length l ≤ length s =
       omega (arith, inside s at l (0x0a ∷ file ls) e, length-drop at s, ap length e, length-append l (0x0d ∷ 0x0a ∷ file ls)) in
-      let p : parts (lentHeld s r) ≡ split l = lent-back joins c s at (split l) (0x0d ∷ 0x0a ∷ file ls) r h (rw join-split e) (rw join-split m) in
-      let a : readParts (mayJoin (c .month) (c .schedule)) c at (parts (lentHeld s r)) ≡ Took r =
-      ap (readParts (mayJoin (c .month) (c .schedule)) c at) p ∙ same-parts (mayJoin (c .month) (c .schedule)) joins (joins-alike c xs k) c at (split l) ∙ h in
-      ap₂ (λ (w : Answer) (y : List ℕ). onAnswer (upto at) (state at false c) w y (after c r)) a (ap join p ∙ join-split l)
-      ∙ line-put at false c (after c r) l ls e
+      let p : parts (lentHeld s r) ≡ split l = lent-back (c .last) (inList (c .before) xs) s at (split l) (0x0d ∷ 0x0a ∷ file ls) r h (rw join-split e) (rw join-split m) in
+      let a : readParts (c .last) (context (c .before)) at (parts (lentHeld s r)) ≡ Took r =
+      ap (readParts (c .last) (context (c .before)) at) p ∙ same-parts _ _ (joins-alike (c .before) xs k) (c .last) (c .before) at (split l) ∙ h in
+      ap₂ (λ (w : Answer) (y : List ℕ). onAnswer (upto at) (state at false c) w y (after (c .before) r)) a (ap join p ∙ join-split l)
+      ∙ line-put at false c (after (c .before) r) l ls e
 
   -- closing, where the file has its end
   close-put : (at : ℕ) (c : Sofar) → drop at s ≡ file [] → closes (c .last) ≡ true → closeBuffer (upto at) (state at false c) ≡ done (length s) true c (upto (length s))
@@ -105,15 +107,15 @@ module _ (s out : List ℕ) (fits : length s ≤ length out) (most : length s �
   close-put at c e k =
       let m : length s ≡ at + 1 = omega (arith, length-drop at s, ap length e) in
       let o : length (upto at) ≡ length out = length-upto at (omega arith) in
-      rw (k, o, le-leb (at + 1) (min (length out) 16384) (omega arith), m)
+      rw (k, o, le-leb (at + 1) (min (length out) fileMost) (omega arith), m)
       (ap (λ (b : List ℕ). done (at + 1) true c b) (put-more at (0x1a ∷ []) [] e (omega arith)))
 
   -- one line, and those after it
-  line-written : (c : Sofar) (xs : List Supplement) → Keeps c xs → (at : ℕ) (l : List ℕ) (ls : List (List ℕ)) (rest : Record → File) → drop at s ≡ file (l ∷ ls) →
-      ((r : Record) → readParts (λ x. list (c .month) (xs ++ (x ∷ []))) c at (split l) ≡ Took r → rest r .ending ≡ whole →
-      putAll (map (item s) (rest r .records)) (done (at + (length l + 2)) false (after c r) (upto (at + (length l + 2)))) ≡
-      done (length s) true (afterAll (after c r) (rest r .records)) (upto (length s))) →
-      (a : Answer) → readParts (λ x. list (c .month) (xs ++ (x ∷ []))) c at (split l) ≡ a → on a rest .ending ≡ whole →
+  line-written : (c : Sofar) (xs : List Supplement) → Keeps (c .before) xs → (at : ℕ) (l : List ℕ) (ls : List (List ℕ)) (rest : Record → File) → drop at s ≡ file (l ∷ ls) →
+      ((r : Record) → readParts (c .last) (inList (c .before) xs) at (split l) ≡ Took r → rest r .ending ≡ whole →
+      putAll (map (item s) (rest r .records)) (done (at + (length l + 2)) false (after (c .before) r) (upto (at + (length l + 2)))) ≡
+      done (length s) true (afterAll (after (c .before) r) (rest r .records)) (upto (length s))) →
+      (a : Answer) → readParts (c .last) (inList (c .before) xs) at (split l) ≡ a → on a rest .ending ≡ whole →
       putAll (map (item s) (on a rest .records)) (done at false c (upto at)) ≡ done (length s) true (afterAll c (on a rest .records)) (upto (length s))
   unfolding putAll
   line-written c xs k at l ls rest e more (Took r) h w =
@@ -121,7 +123,7 @@ module _ (s out : List ℕ) (fits : length s ≤ length out) (most : length s �
   line-written c xs k at l ls rest e more (Refused f) h w = never-whole w
 
   -- All lines from an offset on, then the end.
-  pub lines-written : (ls : List (List ℕ)) (at : ℕ) (c : Sofar) (xs : List Supplement) → Keeps c xs → readLines at c xs ls .ending ≡ whole → drop at s ≡ file ls →
+  pub lines-written : (ls : List (List ℕ)) (at : ℕ) (c : Sofar) (xs : List Supplement) → Keeps (c .before) xs → readLines at c xs ls .ending ≡ whole → drop at s ≡ file ls →
       putAll (map (item s) (readLines at c xs ls .records)) (done at false c (upto at)) ≡
       done (length s) true (afterAll c (readLines at c xs ls .records)) (upto (length s))
   unfolding readLines putAll
@@ -129,8 +131,8 @@ module _ (s out : List ℕ) (fits : length s ≤ length out) (most : length s �
       cases (closes (c .last)) (λ t. simp t (close-put at c e t)) (λ t. never-whole (simp t at w))
   lines-written (l ∷ ls) at c xs k w e =
       let z : at + length l + 2 ≡ at + (length l + 2) = omega arith in
-      line-written c xs k at l ls (λ r. readLines (at + length l + 2) (after c r) (supplements xs r) ls) e
+      line-written c xs k at l ls (λ r. readLines (at + length l + 2) (after (c .before) r) (supplements xs r) ls) e
       (λ r h v. rw (← z)
-      (lines-written ls (at + length l + 2) (after c r) (supplements xs r)
-      (leaves c xs k (λ x. list (c .month) (xs ++ (x ∷ []))) (λ x. refl) at (split l) r h) v (after-line s at l ls e)))
-      (readParts (λ x. list (c .month) (xs ++ (x ∷ []))) c at (split l)) refl w
+      (lines-written ls (at + length l + 2) (after (c .before) r) (supplements xs r)
+      (keeps-on (c .before) xs k (λ x. list (c .before .month) (xs ++ (x ∷ []))) (λ x. refl) (c .last) at (split l) r h) v (after-line s at l ls e)))
+      (readParts (c .last) (inList (c .before) xs) at (split l)) refl w

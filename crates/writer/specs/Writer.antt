@@ -5,12 +5,13 @@ use mathlib.Core.Bool.{Bool, true, false, cond}
 use mathlib.Core.List.{List, [], _∷_, _++_}
 use lib.Dec.{leb}
 use lib.ListN.{length, take, drop}
+use Rattle.cells.specs.Limits.{fileMost}
 use Rattle.cells.specs.Text.{bytes}
 use Rattle.order.specs.Next.{closes}
-use Rattle.schedule.specs.Kept.{mayJoin}
-use Rattle.field.specs.declared.Sofar.{Sofar}
+use Rattle.field.specs.Field.{context}
 use Rattle.record.specs.Record.{start, after}
 use Rattle.record_line.specs.Line.{readParts}
+use Rattle.record.specs.declared.Sofar.{Sofar}
 use Rattle.record.specs.declared.Record.{Record}
 use Rattle.record.specs.declared.Answer.{Answer}
 use Rattle.record.specs.declared.Answer.the-variants.{Took, Refused}
@@ -41,7 +42,7 @@ wrote out t l next = record { put = record { number = 0; own = 0; state = next }
 
 -- "33, given exactly when the place plus the line with CR LF plus the closing 1Ah passes the buffer or 16,384."
 unfoldable pub room : List ℕ → ℕ → List ℕ → Bool
-room out at l = leb (at + (length l + 3)) (min (length out) 16384)
+room out at l = leb (at + (length l + 3)) (min (length out) fileMost)
 
 -- A line with its CR LF.
 abbrev pub ended : List ℕ → List ℕ
@@ -62,19 +63,19 @@ openBuffer out = putLine out unopened (bytes "JAHIS5") start
 -- "34 record the reader would refuse here, fields taken as held; its number follows": the reader's own rule, over the record's parts.
 abbrev pub onAnswer : List ℕ → State → Answer → List ℕ → Sofar → Left
 onAnswer out t (Took r) l c = putLine out t l c
-onAnswer out t (Refused f) l c = refuses out t 34 (f .number)
+onAnswer out t (Refused f) l c = refuses out t 34 (f .fault .number)
 
 -- One record, whose texts lie in lent bytes. "Any call after closing, 34 with 24."
 unfoldable pub putRecord : List ℕ → State → Record → List ℕ → Left
 putRecord out t r lent =
     cond (t .closed) (refuses out t 34 24)
-    (onAnswer out t (readParts (mayJoin (t .sofar .month) (t .sofar .schedule)) (t .sofar) (t .at) (parts (lentHeld lent r))) (printRecord (lentHeld lent r))
-    (after (t .sofar) r))
+    (onAnswer out t (readParts (t .sofar .last) (context (t .sofar .before)) (t .at) (parts (lentHeld lent r))) (printRecord (lentHeld lent r))
+    (after (t .sofar .before) r))
 
 -- "Closing too early is 34 with 32": else the 1Ah, for which every line left room.
 unfoldable pub closeBuffer : List ℕ → State → Left
 closeBuffer out t =
     cond (t .closed) (refuses out t 34 24)
     (cond (closes (t .sofar .last))
-    (cond (leb (t .at + 1) (min (length out) 16384)) (wrote out t (0x1a ∷ []) (state (t .at + 1) true (t .sofar))) (refuses out t 33 0))
+    (cond (leb (t .at + 1) (min (length out) fileMost)) (wrote out t (0x1a ∷ []) (state (t .at + 1) true (t .sofar))) (refuses out t 33 0))
     (refuses out t 34 32))

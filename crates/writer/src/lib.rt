@@ -1,6 +1,7 @@
 // The writer of a prescription file: opened over a lent buffer, then one call puts one record, and closing writes the end.
-use field::Sofar;
+use laid::PARTS;
 use record::Record;
+use record::Sofar;
 ghost use mathlib.Core.Path.{_≡_};
 ghost use Prim.Native.Nat.{_≤_};
 ghost use lib.ListN.{length};
@@ -62,6 +63,35 @@ fn put_version(out: &mut [u8])
     out[7] = b'\n';
 }
 
+// Puts a record, whose texts lie in the lent bytes, with arrays for its parts, which no call on the way has a copy of.
+fn put_parts(
+    out: &mut [u8],
+    t: State,
+    r: Record,
+    lent: &[u8],
+    kinds: &mut [u8; PARTS],
+    numbers: &mut [u16; PARTS],
+    from: &mut [usize; PARTS],
+    to: &mut [usize; PARTS],
+    own: &mut [u8; 24],
+) -> Told
+    ensures { λ v. ⌜ record { put = v; buffer = now (out .exit) } ≡ putRecord (now (out .entry)) t r (now (lent .entry)) ⌝ }
+{
+    if t.closed {
+        return refused(t, 34, 24);
+    }
+    let c = t.sofar;
+    let e = entry::of(c, r, lent, kinds, numbers, from, to, own);
+    if e.wrong != 0 {
+        return refused(t, 34, e.wrong);
+    }
+    let at = laid::put(out, t.at, e.count, lent, kinds, numbers, from, to, own);
+    if at == t.at {
+        return refused(t, 33, 0);
+    }
+    wrote(at, false, record::after(c.before, r))
+}
+
 // ---- the calls
 
 // Opens a buffer: the version line.
@@ -88,25 +118,22 @@ pub fn open(out: &mut [u8]) -> Told
 pub fn put(out: &mut [u8], t: State, r: Record, lent: &[u8]) -> Told
     ensures { λ v. ⌜ record { put = v; buffer = now (out .exit) } ≡ putRecord (now (out .entry)) t r (now (lent .entry)) ⌝ }
 {
-    if t.closed {
-        return refused(t, 34, 24);
-    }
-    let c = t.sofar;
-    let e = entry::of(c, r, lent);
-    if e.wrong != 0 {
-        return refused(t, 34, e.wrong);
-    }
-    let kinds = e.kinds;
-    let numbers = e.numbers;
-    let from = e.from;
-    let to = e.to;
-    let chars = e.own.bytes;
-    let own = laid::first(&chars, e.own.length);
-    let at = laid::put(out, t.at, e.count, lent, &kinds, &numbers, &from, &to, own);
-    if at == t.at {
-        return refused(t, 33, 0);
-    }
-    wrote(at, false, record::after(c, r))
+    let mut kinds = [0; PARTS];
+    let mut numbers = [0; PARTS];
+    let mut from = [0; PARTS];
+    let mut to = [0; PARTS];
+    let mut own = [0; 24];
+    put_parts(
+        out,
+        t,
+        r,
+        lent,
+        &mut kinds,
+        &mut numbers,
+        &mut from,
+        &mut to,
+        &mut own,
+    )
 }
 
 // Writes the end: the 1Ah.

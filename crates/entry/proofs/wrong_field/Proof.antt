@@ -6,24 +6,25 @@ use native.Mathlib.Omega.{arith}
 use native.Mathlib.Nat.{sub-zero}
 use borrow.Author.Needs.{needs}
 use lib.ListN.{getD}
-use Rattle.row.specs.Table.{kindField, codeField}
+use Rattle.text.specs.Lent.{noField, textOr}
+use Rattle.row.specs.Table.{wide, kindField, codeField}
 use Rattle.row.specs.declared.Rules.{Rules}
-use Rattle.schedule.specs.Kept.{mayJoin}
-use Rattle.laid.specs.Laid.{noField, textOr, Laid, laid}
+use Rattle.field.specs.Field.{context}
+use Rattle.laid.specs.Laid.{Laid, laid}
 use Rattle.entry.specs.Code.Judge.{kindMark, tableBy, tableIn, wrongFrom, wrongTyped}
 use Rattle.entry.proofs.Walk.{kind-most, code-most, few-rules, wrong-here, wrong-later}
 use Rattle.entry.proofs.wrong_field.Statement.{statement}
 use Rattle.entry.proofs.wrong_field.Tie as tie
 
 abbrev Inv-loop : tie.InvT-loop
-Inv-loop c n lent kinds numbers from to own kind code mark rules count i₀ i =
+Inv-loop b n lent kinds numbers from to own kind code mark rules count i₀ i =
     (i ≤ count)
-    × (count ≤ 9)
-    × (wrongFrom (mayJoin (c .month) (c .schedule)) c lent (rules .each) (laid kinds numbers from to own) (count - i) i
-    ≡ wrongTyped (mayJoin (c .month) (c .schedule)) c lent n (laid kinds numbers from to own))
+    × (count ≤ wide)
+    × (wrongFrom (context b) lent (rules .each) (laid kinds numbers from to own) (count - i) i
+    ≡ wrongTyped (context b) lent n (laid kinds numbers from to own))
 
 abbrev μ-loop : tie.MeasureT-loop
-μ-loop c n lent kinds numbers from to own kind code mark rules count i₀ i = count - i
+μ-loop b n lent kinds numbers from to own kind code mark rules count i₀ i = count - i
 
 kind-field-requires : tie.Need-kind-field-requires Inv-loop μ-loop
 kind-field-requires c κs = search needs
@@ -72,7 +73,7 @@ loop-holds c =
     let m = ap (λ (x : Rules). x .count) t in (
       omega arith,
       omega (arith, m, few),
-      rw sub-zero (ap (λ (x : Rules). wrongFrom (mayJoin (a .c .month) (a .c .schedule)) (a .c) (a .lent .now) (x .each) p (x .count) 0) t),
+      rw sub-zero (ap (λ (x : Rules). wrongFrom (context (a .b)) (a .lent .now) (x .each) p (x .count) 0) t),
     )
 
 add-k : tie.Need-add-k Inv-loop μ-loop
@@ -116,7 +117,7 @@ returns c =
     let p : Laid = laid (a .kinds .now) (a .numbers .now) (a .from .now) (a .to .now) (a .own .now) in
     let w = c .before .wrong-part in
     w .ensures ∙
-    sym (wrong-here (mayJoin (a .c .month) (a .c .schedule)) (a .c) (a .lent .now) (t .each) p (t .count) (l .i) (omega arith) (λ e. c .if1 .taken (w .ensures ∙ e)))
+    sym (wrong-here (context (a .b)) (a .lent .now) (t .each) p (t .count) (l .i) (omega arith) (λ e. c .if1 .taken (w .ensures ∙ e)))
     ∙ l .inv .2
 
 loop-less : tie.Need-loop-less Inv-loop μ-loop
@@ -131,7 +132,7 @@ loop-again c =
     let w = c .before .wrong-part in (
       omega arith,
       l .inv .1,
-      sym (wrong-later (mayJoin (a .c .month) (a .c .schedule)) (a .c) (a .lent .now) (t .each) p (t .count) (l .i) (omega arith) (sym (w .ensures) ∙ c .if1 .left)) ∙ l .inv .2,
+      sym (wrong-later (context (a .b)) (a .lent .now) (t .each) p (t .count) (l .i) (omega arith) (sym (w .ensures) ∙ c .if1 .left)) ∙ l .inv .2,
     )
 
 returns-2 : tie.Need-returns-2 Inv-loop μ-loop

@@ -20,14 +20,14 @@ returns-2 : tie.Need-returns-2
 unfolding partWrong textBytes
 returns-2 c = rw (ne-eqb _ _ (c .before .before .if1 .left), eq-eqb _ _ (c .before .if2 .taken)) (c .wrong-place .ensures)
 
-read-requires : tie.Need-read-requires
-read-requires c κs = search needs
+wrong-place-requires-2 : tie.Need-wrong-place-requires-2
+wrong-place-requires-2 c κs = search needs
 
 returns-3 : tie.Need-returns-3
 unfolding partWrong textBytes
-returns-3 c = rw (ne-eqb _ _ (c .before .before .if1 .left), ne-eqb _ _ (c .before .if2 .left)) (λ i. c .read .ensures i .number)
+returns-3 c = rw (ne-eqb _ _ (c .before .before .if1 .left), ne-eqb _ _ (c .before .if2 .left)) (c .wrong-place2 .ensures)
 
 pub wrong-part-spec : {M : Type 1} → statement M
 wrong-part-spec =
     tie.close
-    (tie.spec wrong-number-requires returns wrong-place-requires returns-2 read-requires returns-3)
+    (tie.spec wrong-number-requires returns wrong-place-requires returns-2 wrong-place-requires-2 returns-3)

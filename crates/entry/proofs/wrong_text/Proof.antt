@@ -4,7 +4,7 @@ use mathlib.Core.Path.{_≡_, refl, _∙_, sym, ap}
 use native.Mathlib.Omega.{arith}
 use borrow.Author.Needs.{needs}
 use lib.ListN.{length, drop}
-use Rattle.schedule.specs.Kept.{mayJoin}
+use Rattle.field.specs.Field.{context}
 use Rattle.line.specs.Fields.{split}
 use Rattle.field.specs.declared.Field.{Field}
 use Rattle.entry.specs.Code.Judge.{textsWrong}
@@ -13,12 +13,12 @@ use Rattle.entry.proofs.wrong_text.Statement.{statement}
 use Rattle.entry.proofs.wrong_text.Tie as tie
 
 abbrev Inv-loop : tie.InvT-loop
-Inv-loop c s r from₀ from =
+Inv-loop b s r from₀ from =
     (from ≤ length s)
-    × (textsWrong (mayJoin (c .month) (c .schedule)) c (split (drop from s)) ≡ textsWrong (mayJoin (c .month) (c .schedule)) c (split s))
+    × (textsWrong (context b) (split (drop from s)) ≡ textsWrong (context b) (split s))
 
 abbrev μ-loop : tie.MeasureT-loop
-μ-loop c s r from₀ from = length s - from
+μ-loop b s r from₀ from = length s - from
 
 kept-rule-requires : tie.Need-kept-rule-requires Inv-loop μ-loop
 kept-rule-requires c κs = search needs
@@ -45,13 +45,13 @@ returns : tie.Need-returns Inv-loop μ-loop
 returns c =
     let f = c .before .before .before in
     let l = f .before .loop in
-    sym (wrong-text-here _ _ _ _ _ (l .inv .0) (f .comma .ensures) _ (f .before .before .kept-rule .ensures) _ (ap (λ (t : Field). t .number) (c .before .read .ensures)) (c .if1 .taken)) ∙ l .inv .1
+    sym (wrong-text-here _ _ _ _ (l .inv .0) (f .comma .ensures) _ (f .before .before .kept-rule .ensures) _ (ap (λ (t : Field). t .fault .number) (c .before .read .ensures)) (c .if1 .taken)) ∙ l .inv .1
 
 returns-2 : tie.Need-returns-2 Inv-loop μ-loop
 returns-2 c =
     let f = c .before .before .before .before in
     let l = f .before .loop in
-    sym (no-text-more _ _ _ _ _ (l .inv .0) (f .comma .ensures) _ (f .before .before .kept-rule .ensures) _ (ap (λ (t : Field). t .number) (c .before .before .read .ensures)) (c .if2 .taken) (c .before .if1 .left)) ∙ l .inv .1
+    sym (no-text-more _ _ _ _ (l .inv .0) (f .comma .ensures) _ (f .before .before .kept-rule .ensures) _ (ap (λ (t : Field). t .fault .number) (c .before .before .read .ensures)) (c .if2 .taken) (c .before .if1 .left)) ∙ l .inv .1
 
 add-from : tie.Need-add-from Inv-loop μ-loop
 add-from c = let f = c .before .before .before .before in omega (arith, comma-most _ _ _ (f .before .loop .inv .0) (f .comma .ensures))
@@ -64,7 +64,7 @@ loop-again c =
     let f = c .before .before .before .before in
     let l = f .before .loop in (
       omega (arith, comma-most _ _ _ (l .inv .0) (f .comma .ensures)),
-      sym (next-text _ _ _ _ _ (l .inv .0) (f .comma .ensures) _ (f .before .before .kept-rule .ensures) _ (ap (λ (t : Field). t .number) (c .before .before .read .ensures)) (c .if2 .left) (c .before .if1 .left)) ∙ l .inv .1,
+      sym (next-text _ _ _ _ (l .inv .0) (f .comma .ensures) _ (f .before .before .kept-rule .ensures) _ (ap (λ (t : Field). t .fault .number) (c .before .before .read .ensures)) (c .if2 .left) (c .before .if1 .left)) ∙ l .inv .1,
     )
 
 pub wrong-text-spec : {M : Type 1} → statement M

@@ -3,7 +3,7 @@ use mathlib.Core.Bool.{true, false}
 use mathlib.Core.Path.{ap, _∙_}
 use native.Mathlib.Omega.{arith}
 use borrow.Author.Needs.{needs}
-use Rattle.field.specs.declared.Sofar.{Sofar}
+use Rattle.record.specs.declared.Sofar.{Sofar}
 use Rattle.writer.specs.Writer.{state}
 use Rattle.writer.specs.declared.Told.{Told}
 use Rattle.writer.proofs.Calls.{open-short, open-put}
