@@ -13,8 +13,7 @@ use Rattle.line.specs.Frame.{file}
 use Rattle.line.specs.Fields.{split}
 use Rattle.supplement.specs.declared.Supplement.{Supplement}
 use Rattle.order.specs.Next.{closes}
-use Rattle.schedule.specs.Schedule.{list}
-use Rattle.field.specs.declared.Sofar.{Sofar}
+use Rattle.record.specs.declared.Sofar.{Sofar}
 use Rattle.record.specs.Record.{start, after, supplements}
 use Rattle.record_line.specs.Line.{readParts}
 use Rattle.record.specs.declared.Record.{Record}
@@ -22,8 +21,8 @@ use Rattle.record.specs.declared.Refusal.{Refusal}
 use Rattle.record.specs.declared.Answer.{Answer}
 use Rattle.record.specs.declared.Answer.the-variants.{Took, Refused}
 use Rattle.reader.specs.Open.{fileFault}
-use Rattle.reader.specs.File.{File, Ending, whole, stopped, on, readLines, readFile}
-use Rattle.reader.specs.Reader.{endingOf, told}
+use Rattle.reader.specs.File.{File, Ending, whole, stopped, on, inList, readLines, readFile}
+use Rattle.reader.specs.Reader.{endingOf, answerAt}
 use Rattle.reader.specs.Said.{Refuses}
 use Rattle.reader.proofs.Lines.{opens}
 
@@ -36,8 +35,8 @@ lines-most : (ls : List (List ℕ)) (at : ℕ) (c : Sofar) (xs : List Supplement
 unfolding readLines
 lines-most [] at c xs = cases (closes (c .last)) (λ a. simp a (omega arith)) (λ a. simp a (omega arith))
 lines-most (l ∷ ls) at c xs =
-    on-most (length ls) (λ r. readLines (at + length l + 2) (after c r) (supplements xs r) ls)
-    (λ r. lines-most ls (at + length l + 2) (after c r) (supplements xs r)) (readParts (λ x. list (c .month) (xs ++ (x ∷ []))) c at (split l))
+    on-most (length ls) (λ r. readLines (at + length l + 2) (after (c .before) r) (supplements xs r) ls)
+    (λ r. lines-most ls (at + length l + 2) (after (c .before) r) (supplements xs r)) (readParts (c .last) (inList (c .before) xs) at (split l))
 
 -- and a line has two bytes
 lines-bytes : (ls : List (List ℕ)) → length ls ≤ length (file ls)
@@ -57,8 +56,8 @@ at-most s =
 
 -- ---- past the records
 -- There the ending is told,
-pub told-end : (n : ℕ) (rs : List Record) (e : Ending) → length rs ≤ n → told n rs e ≡ endingOf e
-unfolding told
+pub told-end : (n : ℕ) (rs : List Record) (e : Ending) → length rs ≤ n → answerAt n rs e ≡ endingOf e
+unfolding answerAt
 told-end n [] e h = refl
 told-end zero (r ∷ rs) e h = absurd (omega arith)
 told-end (suc n) (r ∷ rs) e h = told-end n rs e (omega arith)
@@ -68,8 +67,8 @@ ending-refused whole f h = absurd (let z : _≡_ {A = ℕ} 0 1 = cc in omega ari
 ending-refused (stopped g) f h = let z : g ≡ f = cc in ap stopped z
 
 -- and a refusal is told only there.
-pub told-refused : (n : ℕ) (rs : List Record) (e : Ending) (f : Refusal) → told n rs e ≡ Refuses f → (length rs ≤ n) × (e ≡ stopped f)
-unfolding told
+pub told-refused : (n : ℕ) (rs : List Record) (e : Ending) (f : Refusal) → answerAt n rs e ≡ Refuses f → (length rs ≤ n) × (e ≡ stopped f)
+unfolding answerAt
 told-refused n [] e f h = (omega arith, ending-refused e f h)
 told-refused zero (r ∷ rs) e f h = absurd (let z : _≡_ {A = ℕ} 0 1 = cc in omega arith)
 told-refused (suc n) (r ∷ rs) e f h = let k = told-refused n rs e f h in (omega arith, k .1)

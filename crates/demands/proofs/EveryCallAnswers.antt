@@ -13,7 +13,7 @@ use Rattle.days_writer.specs.declared.Wrote.{Wrote}
 use Rattle.record.specs.declared.Record.{Record}
 use Rattle.record.specs.declared.Refusal.{Refusal}
 use Rattle.reader.specs.File.{readFile}
-use Rattle.reader.specs.Reader.{openFile, nextRecord, call, endingOf, told}
+use Rattle.reader.specs.Reader.{openFile, nextRecord, call, endingOf, answerAt}
 use Rattle.reader.specs.declared.State.{State}
 use Rattle.reader.specs.Said.{Hands, Refuses, End}
 use Rattle.reader.proofs.Laws as reader
@@ -35,7 +35,7 @@ answered = eachCall.answered
 
 -- ---- "and the work ends."
 -- The call with n calls before it hands out the file's record n, counted from 0, and past them tells the end or the refusal.
-pub each-call : (s : List ℕ) (n : ℕ) → call n s (openFile s) ≡ told n (readFile s .records) (readFile s .ending)
+pub each-call : (s : List ℕ) (n : ℕ) → call n s (openFile s) ≡ answerAt n (readFile s .records) (readFile s .ending)
 each-call = reader.calls
 
 -- So every call past the records tells the end or the refusal,

@@ -21,29 +21,28 @@ use Rattle.order.specs.Next.{follow, closes}
 use Rattle.order.proofs.Bools.{clash}
 use Rattle.order.proofs.Laws.{at-start, last-is, closing}
 use Rattle.order.proofs.Laws as order
-use Rattle.field.specs.Field.{codeFault, wrong, refusedWith, readField}
+use Rattle.field.specs.Field.{Context, codeFault, wrong, refusedWith, readField}
 use Rattle.field.specs.declared.Rule.{Rule}
-use Rattle.field.specs.declared.Sofar.{Sofar}
+use Rattle.record.specs.declared.Sofar.{Sofar}
 use Rattle.field.specs.declared.Field.{Field}
 use Rattle.row.specs.Table.{rules, counted}
 use Rattle.row.specs.Row.{refusedAt, fieldByField, readRow}
 use Rattle.row.specs.declared.Row.{Row}
-use Rattle.record.specs.Record.{start, after, supplements}
+use Rattle.record.specs.Record.{numberOf, start, after, supplements}
 use Rattle.record_line.specs.Line.{refusal, readFields, readParts}
 use Rattle.record.specs.declared.Record.{Record}
 use Rattle.record.specs.declared.Refusal.{Refusal}
 use Rattle.record.specs.declared.Answer.{Answer}
 use Rattle.record.specs.declared.Answer.the-variants.{Took, Refused}
 use Rattle.reader.specs.Open.{versionLine, fileFault}
-use Rattle.reader.specs.File.{File, stopped, linesOf, on, readLines, readFile, numberOf}
+use Rattle.reader.specs.File.{File, stopped, linesOf, on, readLines, readFile, inList}
 use Rattle.reader.specs.Reader.{openFile, call, endingOf}
 use Rattle.reader.specs.Said.{Refuses}
 use Rattle.reader.proofs.Lines.{opens, lines-of}
 use Rattle.reader.proofs.Laws as reader
-use Rattle.reader.proofs.Order.{leaves-number}
 use Rattle.demands.specs.Numbers.{FieldNumber, need, text, value, atField}
 use Rattle.demands.specs.Numbers as numbers
-use Rattle.demands.specs.Taken.{fieldsIn, joinsAfter}
+use Rattle.demands.specs.Taken.{fieldsIn}
 use Rattle.demands.specs.Refused.{startAfter, leaving, supplied, Reaches, here, next, CodeRefused, usage, supplement, numberOn, WrongLine, unknown, hopeless, missing, field, code, Opens, FileRefusal, tooLong, frame, version}
 use Rattle.demands.specs.Refused as refused
 use Rattle.demands.proofs.Files.{same-number, not-wrong}
@@ -51,15 +50,15 @@ use Rattle.demands.proofs.Calls.{told-end, told-refused}
 use Rattle.demands.proofs.Refused.{taken-stands, Stops, atLine, atEnd, opened, its-lines, its-version, file-refused}
 
 -- ---- a field
-module _ (joins : Supplement → Bool) (c : Sofar) where
+module _ (c : Context) where
   -- what is read of a field of which this is wrong,
-  field-told : (r : Rule) (f : List ℕ) (n : ℕ) → FieldNumber n → wrong joins c r f ≡ n → readField joins c r f ≡ refusedWith n (fault 0 0)
+  field-told : (r : Rule) (f : List ℕ) (n p : ℕ) → FieldNumber n p → wrong c r f ≡ fault n p → readField c r f ≡ refusedWith (fault n p) 0
   unfolding readField
-  field-told r f n need e = simp e
-  field-told r f n text e = simp e
-  field-told r f n value e = simp e
-  field-told r f n numbers.FieldNumber.order e = simp e
-  field-told r f n numbers.FieldNumber.list e = simp e
+  field-told r f n p need e = simp e
+  field-told r f n p text e = simp e
+  field-told r f n p value e = simp e
+  field-told r f n p numbers.FieldNumber.order e = simp e
+  field-told r f n p numbers.FieldNumber.list e = simp e
 
   -- or its code
   its-fault : (r : Rule) (f : List ℕ) (n p : ℕ) → CodeRefused r f n p → codeFault r f ≡ fault n p
@@ -67,77 +66,77 @@ module _ (joins : Supplement → Bool) (c : Sofar) where
   its-fault r f n p (usage k e) = simp (k, e)
   its-fault r f n p (supplement k e) = simp (k, e)
 
-  code-told : (r : Rule) (f : List ℕ) (n p : ℕ) → wrong joins c r f ≡ 29 → CodeRefused r f n p → readField joins c r f ≡ refusedWith 29 (fault n p)
+  code-told : (r : Rule) (f : List ℕ) (n p : ℕ) → wrong c r f ≡ fault 29 p → CodeRefused r f n p → readField c r f ≡ refusedWith (fault 29 p) n
   unfolding readField
   code-told r f n p e k = simp (e, its-fault r f n p k)
 
   -- the first wrong field is the one that is told
-  row-told : (j : ℕ) (rs : List Rule) (fs : List (List ℕ)) (k : ℕ) (r : Rule) (f : List ℕ) (row : Row) → Reaches joins c j rs fs k r f →
-      (readField joins c r f .number ≡ 0 → ⊥) → fieldByField joins c j rs fs row ≡ refusedAt k (readField joins c r f)
+  row-told : (j : ℕ) (rs : List Rule) (fs : List (List ℕ)) (k : ℕ) (r : Rule) (f : List ℕ) (row : Row) → Reaches c j rs fs k r f →
+      (readField c r f .fault .number ≡ 0 → ⊥) → fieldByField c j rs fs row ≡ refusedAt k (readField c r f)
   unfolding fieldByField
-  row-told j rs fs k r f row here z = simp (ne-eqb (readField joins c r f .number) 0 z)
+  row-told j rs fs k r f row here z = simp (ne-eqb (readField c r f .fault .number) 0 z)
   row-told j rs fs k r f row (next {q = q} {rs = qs} {e = e} {fs = gs} p h) z =
-      simp (eq-eqb _ _ (same-number joins c q e ∙ not-wrong joins c q e p)) (row-told (j + 1) qs gs k r f row h z)
+      simp (eq-eqb _ _ (same-number c q e ∙ not-wrong c q e p)) (row-told (j + 1) qs gs k r f row h z)
 
-  row-read : (n from : ℕ) (fs : List (List ℕ)) (k : ℕ) (r : Rule) (f : List ℕ) → counted n fs ≡ true → Reaches joins c 1 (rules n fs) fs k r f →
-      (readField joins c r f .number ≡ 0 → ⊥) → readRow joins c n from fs ≡ refusedAt k (readField joins c r f)
+  row-read : (n from : ℕ) (fs : List (List ℕ)) (k : ℕ) (r : Rule) (f : List ℕ) → counted n fs ≡ true → Reaches c 1 (rules n fs) fs k r f →
+      (readField c r f .fault .number ≡ 0 → ⊥) → readRow c n from fs ≡ refusedAt k (readField c r f)
   unfolding readRow
   row-read n from fs k r f a h z = simp a (row-told 1 (rules n fs) fs k r f _ h z)
 
 -- ---- a line
-some-number : (n : ℕ) → FieldNumber n → n ≡ 0 → ⊥
-some-number n need z = omega arith
-some-number n text z = omega arith
-some-number n value z = omega arith
-some-number n numbers.FieldNumber.order z = omega arith
-some-number n numbers.FieldNumber.list z = omega arith
+some-number : (n p : ℕ) → FieldNumber n p → n ≡ 0 → ⊥
+some-number n p need z = omega arith
+some-number n p text z = omega arith
+some-number n p value z = omega arith
+some-number n p numbers.FieldNumber.order z = omega arith
+some-number n p numbers.FieldNumber.list z = omega arith
 
 module _ (before : List ℕ) (c : Sofar) (xs : List Supplement) (at : ℕ) (l : List ℕ) (b : Begins before) (e : c .last ≡ lastOf 0 before) where
   follows : (n : ℕ) → Verdict before (numberOn l) n → follow (c .last) (numberOn l) ≡ n
   follows n v = ap (λ (q : ℕ). follow q (numberOn l)) e ∙ order.told before (numberOn l) n b .1 v
 
   -- by its number,
-  told-order : (n : ℕ) → Verdict before (numberOn l) n → (n ≡ 0 → ⊥) → readParts (joinsAfter c xs) c at (split l) ≡ Refused (refusal n at)
+  told-order : (n : ℕ) → Verdict before (numberOn l) n → (n ≡ 0 → ⊥) → readParts (c .last) (inList (c .before) xs) at (split l) ≡ Refused (refusal n at)
   unfolding readParts readFields
   told-order n v z =
       let k = follows n v in
       simp (ne-eqb (follow (c .last) (numberOn l)) 0 (λ y. z (sym k ∙ y))) (ap (λ (m : ℕ). Refused (refusal m at)) k)
 
   -- by how many fields it has,
-  told-count : Verdict before (numberOn l) 0 → counted (numberOn l) (fieldsIn l) ≡ false → readParts (joinsAfter c xs) c at (split l) ≡ Refused (refusal 25 at)
+  told-count : Verdict before (numberOn l) 0 → counted (numberOn l) (fieldsIn l) ≡ false → readParts (c .last) (inList (c .before) xs) at (split l) ≡ Refused (refusal 25 at)
   unfolding readParts readFields readRow
   told-count v a = simp (eq-eqb _ _ (follows 0 v), a)
 
   -- or by the first wrong one
   told-field : Verdict before (numberOn l) 0 → counted (numberOn l) (fieldsIn l) ≡ true → (k : ℕ) (r : Rule) (f : List ℕ) →
-      Reaches (joinsAfter c xs) c 1 (rules (numberOn l) (fieldsIn l)) (fieldsIn l) k r f → (n : ℕ) (own : Fault) → readField (joinsAfter c xs) c r f ≡ refusedWith n own →
-      (n ≡ 0 → ⊥) → readParts (joinsAfter c xs) c at (split l) ≡ Refused (atField n at k (own .number) (own .place))
+      Reaches (inList (c .before) xs) 1 (rules (numberOn l) (fieldsIn l)) (fieldsIn l) k r f → (w : Fault) (own : ℕ) → readField (inList (c .before) xs) r f ≡ refusedWith w own →
+      (w .number ≡ 0 → ⊥) → readParts (c .last) (inList (c .before) xs) at (split l) ≡ Refused (atField (w .number) at k own (w .place))
   unfolding readParts readFields
-  told-field v a k r f h n own q z =
-      let y : readField (joinsAfter c xs) c r f .number ≡ n = ap (λ (w : Field). w .number) q in
+  told-field v a k r f h w own q z =
+      let y : readField (inList (c .before) xs) r f .fault .number ≡ w .number = ap (λ (t : Field). t .fault .number) q in
       let from : ℕ = at + length (getD (split l) 0 []) + 1 in
-      let w : readRow (joinsAfter c xs) c (numberOn l) from (fieldsIn l) ≡ refusedAt k (refusedWith n own) =
-      row-read (joinsAfter c xs) c (numberOn l) from (fieldsIn l) k r f a h (λ i. z (sym y ∙ i)) ∙ ap (refusedAt k) q in
-      simp (eq-eqb _ _ (follows 0 v), w, ne-eqb n 0 z)
+      let u : readRow (inList (c .before) xs) (numberOn l) from (fieldsIn l) ≡ refusedAt k (refusedWith w own) =
+      row-read (inList (c .before) xs) (numberOn l) from (fieldsIn l) k r f a h (λ i. z (sym y ∙ i)) ∙ ap (refusedAt k) q in
+      simp (eq-eqb _ _ (follows 0 v), u, ne-eqb (w .number) 0 z)
 
-  line-told : (f : Refusal) → WrongLine before c xs at l f → readParts (joinsAfter c xs) c at (split l) ≡ Refused f
+  line-told : (f : Refusal) → WrongLine before c xs at l f → readParts (c .last) (inList (c .before) xs) at (split l) ≡ Refused f
   line-told f (unknown v) = told-order 23 v (λ z. omega arith)
   line-told f (hopeless v) = told-order 24 v (λ z. omega arith)
   line-told f (missing v) = told-order 32 v (λ z. omega arith)
   line-told f (refused.WrongLine.count v a) = told-count v a
-  line-told f (field {n = n} {k = k} {r = r} {f = g} h i w) =
-      told-field (h .stands) (h .count) k r g (h .reaches) n (fault 0 0) (field-told (joinsAfter c xs) c r g n i w) (some-number n i)
+  line-told f (field {n = n} {p = p} {k = k} {r = r} {f = g} h i w) =
+      told-field (h .stands) (h .count) k r g (h .reaches) (fault n p) 0 (field-told (inList (c .before) xs) r g n p i w) (some-number n p i)
   line-told f (code {n = n} {p = p} {k = k} {r = r} {f = g} h w i) =
-      told-field (h .stands) (h .count) k r g (h .reaches) 29 (fault n p) (code-told (joinsAfter c xs) c r g n p w i) (λ z. omega arith)
+      told-field (h .stands) (h .count) k r g (h .reaches) (fault 29 p) n (code-told (inList (c .before) xs) r g n p w i) (λ z. omega arith)
 
 -- ---- lines
 -- the others, where the first is taken
 of-others : (at : ℕ) (c : Sofar) (xs : List Supplement) (before : List ℕ) (l : List ℕ) (ls : List (List ℕ)) (r : Record) (rs : List Record) (f : Refusal) →
-    Stops at c xs before (l ∷ ls) (r ∷ rs) f → Stops (at + length l + 2) (after c r) (supplements xs r) (before ++ (numberOf r ∷ [])) ls rs f
+    Stops at c xs before (l ∷ ls) (r ∷ rs) f → Stops (at + length l + 2) (after (c .before) r) (supplements xs r) (before ++ (numberOf r ∷ [])) ls rs f
 of-others at c xs before l ls r rs f (atLine h w) =
     atLine (omega arith)
     (subst
-    (λ (x : List ℕ). WrongLine x (leaving (after c r) rs) (supplied (supplements xs r) rs) (startAfter (at + length l + 2) ls (length rs)) (getD ls (length rs) []) f)
+    (λ (x : List ℕ). WrongLine x (leaving (after (c .before) r) rs) (supplied (supplements xs r) rs) (startAfter (at + length l + 2) ls (length rs)) (getD ls (length rs) []) f)
     (sym (append-assoc before (numberOf r ∷ []) (map numberOf rs))) w)
 of-others at c xs before l ls r rs f (atEnd h w) = atEnd (omega arith) (λ x. w (subst Sheet (append-assoc before (numberOf r ∷ []) (map numberOf rs)) x))
 
@@ -157,8 +156,8 @@ of-none at c xs before f b e (atEnd h w) =
 on-told : (at : ℕ) (c : Sofar) (xs : List Supplement) (before : List ℕ) (l : List ℕ) (ls : List (List ℕ)) → Begins before → c .last ≡ lastOf 0 before →
     (f : Refusal) (rest : Record → File) →
     ((r : Record) → Begins (before ++ (numberOf r ∷ [])) →
-    Stops (at + length l + 2) (after c r) (supplements xs r) (before ++ (numberOf r ∷ [])) ls (rest r .records) f → rest r .ending ≡ stopped f) →
-    (a : Answer) → readParts (joinsAfter c xs) c at (split l) ≡ a → Stops at c xs before (l ∷ ls) (on a rest .records) f → on a rest .ending ≡ stopped f
+    Stops (at + length l + 2) (after (c .before) r) (supplements xs r) (before ++ (numberOf r ∷ [])) ls (rest r .records) f → rest r .ending ≡ stopped f) →
+    (a : Answer) → readParts (c .last) (inList (c .before) xs) at (split l) ≡ a → Stops at c xs before (l ∷ ls) (on a rest .records) f → on a rest .ending ≡ stopped f
 on-told at c xs before l ls b e f rest more (Took r) h w =
     more r (taken-stands before c xs at l b e r h) (of-others at c xs before l ls r (rest r .records) f w)
 on-told at c xs before l ls b e f rest more (Refused g) h w =
@@ -172,10 +171,10 @@ unfolding readLines
 lines-told f [] at c xs before b e w =
     cases (closes (c .last)) (λ a. clash a (of-none at c xs before f b e (simp a at w) .0)) (λ a. simp a (ap stopped (of-none at c xs before f b e (simp a at w) .1)))
 lines-told f (l ∷ ls) at c xs before b e w =
-    on-told at c xs before l ls b e f (λ r. readLines (at + length l + 2) (after c r) (supplements xs r) ls)
-    (λ r k v. lines-told f ls (at + length l + 2) (after c r) (supplements xs r) (before ++ (numberOf r ∷ [])) k
-    (leaves-number c r ∙ sym (last-is 0 (numberOf r) before)) v)
-    (readParts (joinsAfter c xs) c at (split l)) refl w
+    on-told at c xs before l ls b e f (λ r. readLines (at + length l + 2) (after (c .before) r) (supplements xs r) ls)
+    (λ r k v. lines-told f ls (at + length l + 2) (after (c .before) r) (supplements xs r) (before ++ (numberOf r ∷ [])) k
+    (sym (last-is 0 (numberOf r) before)) v)
+    (readParts (c .last) (inList (c .before) xs) at (split l)) refl w
 
 -- ---- the file
 module _ (s : List ℕ) where

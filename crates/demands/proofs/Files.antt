@@ -9,6 +9,7 @@ use native.Mathlib.Omega.{arith}
 use borrow.Author.Tests.{eqb-true, eqb-false, eq-eqb}
 use lib.Dec.{eqb}
 use lib.ListN.{length, getD}
+use Rattle.cells.specs.Limits.{fileMost}
 use Rattle.cells.specs.Text.{bytes}
 use Rattle.cells.proofs.Split.{split as cases}
 use Rattle.line.specs.Frame.{plain, file}
@@ -17,66 +18,67 @@ use Rattle.supplement.specs.declared.Supplement.{Supplement}
 use Rattle.order.specs.Order.{Begins, Sheet, lastOf}
 use Rattle.order.specs.Next.{follow, closes}
 use Rattle.order.proofs.Laws.{at-start, last-is, closing, stands}
-use Rattle.field.specs.Field.{wrong, readField}
+use Rattle.field.specs.Field.{Context, wrong, readField}
 use Rattle.field.specs.declared.Rule.{Rule}
-use Rattle.field.specs.declared.Sofar.{Sofar}
+use Rattle.record.specs.declared.Sofar.{Sofar}
+use Rattle.field.proofs.Bridge.{numbered}
 use Rattle.row.specs.Table.{rules, counted}
 use Rattle.row.specs.Row.{fine, fieldByField, readRow}
 use Rattle.row.specs.declared.Row.{Row}
-use Rattle.record.specs.Record.{start, after, supplements}
+use Rattle.record.specs.Record.{numberOf, start, after, supplements}
 use Rattle.record_line.specs.Fields.{recordOf}
 use Rattle.record_line.specs.Line.{readFields, recordNumber, readParts}
 use Rattle.record.specs.declared.Record.{Record}
 use Rattle.record.specs.declared.Answer.{Answer}
 use Rattle.record.specs.declared.Answer.the-variants.{Took, Refused}
 use Rattle.reader.specs.Open.{fileFault}
-use Rattle.reader.specs.File.{File, whole, taken, before, on, readLines, readFile, numberOf}
+use Rattle.reader.specs.File.{File, whole, taken, before, on, readLines, readFile, inList}
 use Rattle.reader.proofs.Laws.{sheet}
 use Rattle.reader.proofs.Lines.{opens}
-use Rattle.reader.proofs.Order.{its-number, leaves-number}
+use Rattle.reader.proofs.Order.{its-number}
 use Rattle.held.proofs.File.{never-whole}
 use Rattle.writer.proofs.Laws.{not-long, lines-read}
-use Rattle.demands.specs.Taken.{Passes, fieldTests, FieldsPass, RightFields, fieldsIn, joinsAfter, RightLine, RightLines, TakenFile}
+use Rattle.demands.specs.Taken.{Passes, fieldTests, FieldsPass, RightFields, fieldsIn, RightLine, RightLines, TakenFile}
 use Rattle.demands.proofs.Codes.{All, none-at-fault, all-passed}
 
 -- ---- fields
-module _ (joins : Supplement → Bool) (c : Sofar) where
+module _ (c : Context) where
   -- a field's number is what is wrong with it
-  pub same-number : (r : Rule) (f : List ℕ) → readField joins c r f .number ≡ wrong joins c r f
+  pub same-number : (r : Rule) (f : List ℕ) → readField c r f .fault .number ≡ wrong c r f .number
   unfolding readField
-  same-number r f = cases (eqb (wrong joins c r f) 0) (λ a. simp a (sym (eqb-true _ _ a))) (λ a. simp a)
+  same-number r f = cases (eqb (wrong c r f .number) 0) (λ a. simp a (sym (eqb-true _ _ a))) (λ a. simp a)
 
   -- no test has the number 0
-  some-number : (r : Rule) (f : List ℕ) → All (λ n p. n ≡ 0 → ⊥) (fieldTests joins c r f)
+  some-number : (r : Rule) (f : List ℕ) → All (λ n p. n ≡ 0 → ⊥) (fieldTests c r f)
   some-number r [] = (λ a z. omega arith, λ a. tt)
   some-number r (b ∷ f) = (
     λ a z. omega arith,
     λ a.
-        (λ a z. omega arith, λ a. (λ a z. omega arith, λ a. (λ a z. omega arith, λ a. (λ a z. omega arith, λ a. (λ a z. omega arith, λ a. tt))))),
+        (λ a z. omega arith, λ a. (λ a z. eqb-false _ _ (numbered r (b ∷ f)) z, λ a. (λ a z. omega arith, λ a. (λ a z. omega arith, λ a. (λ a z. omega arith, λ a. tt))))),
   )
 
-  field-passes : (r : Rule) (f : List ℕ) → wrong joins c r f ≡ 0 → Passes (fieldTests joins c r f)
+  field-passes : (r : Rule) (f : List ℕ) → wrong c r f .number ≡ 0 → Passes (fieldTests c r f)
   unfolding wrong
-  field-passes r f = none-at-fault (λ n p. n ≡ 0 → ⊥) (λ n p h. h) (fieldTests joins c r f) (some-number r f)
+  field-passes r f = none-at-fault (λ n p. n ≡ 0 → ⊥) (λ n p h. h) (fieldTests c r f) (some-number r f)
 
   -- a field that is read has passed them
-  pub field-right : (r : Rule) (f : List ℕ) → readField joins c r f .number ≡ 0 → Passes (fieldTests joins c r f)
+  pub field-right : (r : Rule) (f : List ℕ) → readField c r f .fault .number ≡ 0 → Passes (fieldTests c r f)
   field-right r f h = field-passes r f (sym (same-number r f) ∙ h)
 
-  pub not-wrong : (r : Rule) (f : List ℕ) → Passes (fieldTests joins c r f) → wrong joins c r f ≡ 0
+  pub not-wrong : (r : Rule) (f : List ℕ) → Passes (fieldTests c r f) → wrong c r f .number ≡ 0
   unfolding wrong
-  not-wrong r f = all-passed (fieldTests joins c r f)
+  not-wrong r f = all-passed (fieldTests c r f)
 
-  fields-pass : (k : ℕ) (rs : List Rule) (fs : List (List ℕ)) (row : Row) → fieldByField joins c k rs fs row .number ≡ 0 → FieldsPass joins c rs fs
+  fields-pass : (k : ℕ) (rs : List Rule) (fs : List (List ℕ)) (row : Row) → fieldByField c k rs fs row .fault .number ≡ 0 → FieldsPass c rs fs
   unfolding fieldByField
   fields-pass k [] fs row h = tt
   fields-pass k (r ∷ rs) [] row h = tt
   fields-pass k (r ∷ rs) (f ∷ fs) row h =
-      cases (eqb (readField joins c r f .number) 0)
+      cases (eqb (readField c r f .fault .number) 0)
       (λ a. (field-right r f (eqb-true _ _ a), fields-pass (k + 1) rs fs row (simp a at h)))
       (λ a. absurd (eqb-false _ _ a (simp a at h)))
 
-  all-pass : (k : ℕ) (rs : List Rule) (fs : List (List ℕ)) (row : Row) → FieldsPass joins c rs fs → fieldByField joins c k rs fs row ≡ row
+  all-pass : (k : ℕ) (rs : List Rule) (fs : List (List ℕ)) (row : Row) → FieldsPass c rs fs → fieldByField c k rs fs row ≡ row
   unfolding fieldByField
   all-pass k [] fs row h = refl
   all-pass k (r ∷ rs) [] row h = refl
@@ -84,17 +86,17 @@ module _ (joins : Supplement → Bool) (c : Sofar) where
       simp (eq-eqb _ _ (same-number r f ∙ not-wrong r f (h .0))) (all-pass (k + 1) rs fs row (h .1))
 
   -- a row has no fault exactly when its fields are right
-  row-right : (n from : ℕ) (fs : List (List ℕ)) → readRow joins c n from fs .number ≡ 0 ↔ RightFields joins c n fs
+  row-right : (n from : ℕ) (fs : List (List ℕ)) → readRow c n from fs .fault .number ≡ 0 ↔ RightFields c n fs
   unfolding readRow
   row-right n from fs = (there, back)
     where
-      there : readRow joins c n from fs .number ≡ 0 → RightFields joins c n fs
+      there : readRow c n from fs .fault .number ≡ 0 → RightFields c n fs
       there h =
           cases (counted n fs) (λ a. record { count = a; pass = fields-pass 1 (rules n fs) fs (fine _) (simp a at h) })
           (λ a. absurd (let z : _≡_ {A = ℕ} 25 0 = simp a at h in omega arith))
 
-      back : RightFields joins c n fs → readRow joins c n from fs .number ≡ 0
-      back t = simp (t .count) (ap (λ (w : Row). w .number) (all-pass 1 (rules n fs) fs _ (t .pass)))
+      back : RightFields c n fs → readRow c n from fs .fault .number ≡ 0
+      back t = simp (t .count) (ap (λ (w : Row). w .fault .number) (all-pass 1 (rules n fs) fs _ (t .pass)))
 
 -- ---- a line
 -- where its first field begins
@@ -102,28 +104,28 @@ abbrev fromIn : ℕ → List ℕ → ℕ
 fromIn at l = at + length (getD (split l) 0 []) + 1
 
 module _ (c : Sofar) (xs : List Supplement) (at : ℕ) (l : List ℕ) where
-  line-right : (r : Record) → readParts (joinsAfter c xs) c at (split l) ≡ Took r → RightLine c xs at l r
+  line-right : (r : Record) → readParts (c .last) (inList (c .before) xs) at (split l) ≡ Took r → RightLine c xs at l r
   unfolding readParts readFields
   line-right r h =
       cases (eqb (follow (c .last) (recordNumber (split l))) 0)
-      (λ a. cases (eqb (readRow (joinsAfter c xs) c (recordNumber (split l)) (fromIn at l) (fieldsIn l) .number) 0)
+      (λ a. cases (eqb (readRow (inList (c .before) xs) (recordNumber (split l)) (fromIn at l) (fieldsIn l) .fault .number) 0)
       (λ b.
       let k : Took (recordOf (recordNumber (split l)) (fromIn at l) (fieldsIn l)) ≡ Took r = simp (a, b) at h in
-      record { fields = row-right (joinsAfter c xs) c (recordNumber (split l)) (fromIn at l) (fieldsIn l) .0 (eqb-true _ _ b); is = cc })
+      record { fields = row-right (inList (c .before) xs) (recordNumber (split l)) (fromIn at l) (fieldsIn l) .0 (eqb-true _ _ b); is = cc })
       (λ b. absurd (let k = simp (a, b) at h in let z : _≡_ {A = ℕ} 0 1 = cc in omega arith)))
       (λ a. absurd (let k = simp a at h in let z : _≡_ {A = ℕ} 0 1 = cc in omega arith))
 
-  line-taken : (r : Record) → follow (c .last) (recordNumber (split l)) ≡ 0 → RightLine c xs at l r → readParts (joinsAfter c xs) c at (split l) ≡ Took r
+  line-taken : (r : Record) → follow (c .last) (recordNumber (split l)) ≡ 0 → RightLine c xs at l r → readParts (c .last) (inList (c .before) xs) at (split l) ≡ Took r
   unfolding readParts readFields
   line-taken r e t =
-      let w : readRow (joinsAfter c xs) c (recordNumber (split l)) (fromIn at l) (fieldsIn l) .number ≡ 0 =
-      row-right (joinsAfter c xs) c (recordNumber (split l)) (fromIn at l) (fieldsIn l) .1 (t .fields) in
+      let w : readRow (inList (c .before) xs) (recordNumber (split l)) (fromIn at l) (fieldsIn l) .fault .number ≡ 0 =
+      row-right (inList (c .before) xs) (recordNumber (split l)) (fromIn at l) (fieldsIn l) .1 (t .fields) in
       simp (eq-eqb _ _ e, eq-eqb _ _ w) (ap Took (t .is))
 
 -- ---- lines
 on-right : (c : Sofar) (xs : List Supplement) (at : ℕ) (l : List ℕ) (ls : List (List ℕ)) (rest : Record → File) →
-    ((r : Record) → rest r .ending ≡ whole → RightLines (at + length l + 2) (after c r) (supplements xs r) ls (rest r .records)) →
-    (a : Answer) → readParts (joinsAfter c xs) c at (split l) ≡ a → on a rest .ending ≡ whole → RightLines at c xs (l ∷ ls) (on a rest .records)
+    ((r : Record) → rest r .ending ≡ whole → RightLines (at + length l + 2) (after (c .before) r) (supplements xs r) ls (rest r .records)) →
+    (a : Answer) → readParts (c .last) (inList (c .before) xs) at (split l) ≡ a → on a rest .ending ≡ whole → RightLines at c xs (l ∷ ls) (on a rest .records)
 on-right c xs at l ls rest more (Took r) e w = (line-right c xs at l r e, more r w)
 on-right c xs at l ls rest more (Refused f) e w = never-whole w
 
@@ -132,8 +134,8 @@ lines-right : (ls : List (List ℕ)) (at : ℕ) (c : Sofar) (xs : List Supplemen
 unfolding readLines
 lines-right [] at c xs w = cases (closes (c .last)) (λ a. simp a tt) (λ a. simp a tt)
 lines-right (l ∷ ls) at c xs w =
-    on-right c xs at l ls (λ r. readLines (at + length l + 2) (after c r) (supplements xs r) ls)
-    (λ r v. lines-right ls (at + length l + 2) (after c r) (supplements xs r) v) (readParts (joinsAfter c xs) c at (split l)) refl w
+    on-right c xs at l ls (λ r. readLines (at + length l + 2) (after (c .before) r) (supplements xs r) ls)
+    (λ r v. lines-right ls (at + length l + 2) (after (c .before) r) (supplements xs r) v) (readParts (c .last) (inList (c .before) xs) at (split l)) refl w
 
 lines-taken : (ls : List (List ℕ)) (rs : List Record) (earlier : List ℕ) (at : ℕ) (c : Sofar) (xs : List Supplement) → Begins earlier →
     c .last ≡ lastOf 0 earlier → RightLines at c xs ls rs → Sheet (earlier ++ map numberOf rs) → readLines at c xs ls ≡ taken rs
@@ -148,10 +150,10 @@ lines-taken (l ∷ ls) (r ∷ rs) earlier at c xs b e t w =
     let d : Begins (earlier ++ (numberOf r ∷ [])) = record { rest = map numberOf rs; whole = v } in
     let f : follow (c .last) (recordNumber (split l)) ≡ 0 =
     ap (follow (c .last)) (sym n) ∙ ap (λ (q : ℕ). follow q (numberOf r)) e ∙ stands earlier (numberOf r) b .1 d in
-    ap (λ (a : Answer). on a (λ q. readLines (at + length l + 2) (after c q) (supplements xs q) ls)) (line-taken c xs at l r f (t .0))
+    ap (λ (a : Answer). on a (λ q. readLines (at + length l + 2) (after (c .before) q) (supplements xs q) ls)) (line-taken c xs at l r f (t .0))
     ∙ ap (before r)
-    (lines-taken ls rs (earlier ++ (numberOf r ∷ [])) (at + length l + 2) (after c r) (supplements xs r) d
-    (leaves-number c r ∙ sym (last-is 0 (numberOf r) earlier)) (t .1) v)
+    (lines-taken ls rs (earlier ++ (numberOf r ∷ [])) (at + length l + 2) (after (c .before) r) (supplements xs r) d
+    (sym (last-is 0 (numberOf r) earlier)) (t .1) v)
 
 -- ---- the file
 module _ (s : List ℕ) (rs : List Record) where
@@ -180,7 +182,7 @@ module _ (s : List ℕ) (rs : List Record) where
   file-read : TakenFile s rs → readFile s ≡ taken rs
   unfolding start lastOf file bytes
   file-read t =
-      let m : length (file (bytes "JAHIS5" ∷ t .lines)) ≤ 16384 = subst (λ (x : List ℕ). length x ≤ 16384) (t .made) (t .most) in
+      let m : length (file (bytes "JAHIS5" ∷ t .lines)) ≤ fileMost = subst (λ (x : List ℕ). length x ≤ fileMost) (t .made) (t .most) in
       ap readFile (t .made)
       ∙ lines-read (t .lines) (t .plain) (omega (arith, m))
       ∙ lines-taken (t .lines) rs [] 8 start [] at-start refl (t .right) (t .order)

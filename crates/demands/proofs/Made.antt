@@ -2,7 +2,7 @@
 -- Assumes nothing.
 use Prim.Native.Nat.{ℕ, _≤_}
 use mathlib.Core.Path.{_≡_, refl, _∙_, sym, ap, subst}
-use mathlib.Core.Bool.{true, cond, _&&_}
+use mathlib.Core.Bool.{true, _&&_}
 use mathlib.Core.List.{List, []}
 use mathlib.Core.Logic.{_↔_}
 use native.Mathlib.Omega.{arith}
@@ -14,7 +14,8 @@ use Rattle.cells.proofs.Split.{split}
 use Rattle.cells.proofs.Alike.{and-left, and-right}
 use Rattle.order.proofs.Bools.{clash, both}
 use Rattle.number.specs.Number.{figures, value}
-use Rattle.date.specs.Date.{none, exists, eraAdds, date, inStyle, isDate, western as inWestern, eraDate, held, readDate, latestEra, makeWestern, makeEra, makeDate}
+use Rattle.number.specs.Number.{none}
+use Rattle.date.specs.Date.{exists, eraAdds, date, inStyle, isDate, western as inWestern, eraDate, held, readDate, latestEra, makeWestern, makeEra, makeDate}
 use Rattle.date.specs.Print.{printDate}
 use Rattle.date.specs.declared.Date.{Date}
 use Rattle.date.proofs.Laws.{back, written}
@@ -22,7 +23,7 @@ use Rattle.demands.specs.Numbers.{DateNumber, DateTextNumber}
 use Rattle.demands.specs.Numbers as numbers
 
 -- a refusal's number and place
-of-none : (P : ℕ → ℕ → Type 0) (n p : ℕ) → none ≡ refused n p → P 27 0 → P n p
+of-none : (P : ℕ → ℕ → Type 0) (n p : ℕ) → none {A = Date} ≡ refused n p → P 27 0 → P n p
 of-none P n p h k =
     let a : 27 ≡ n = cc in
     let b : 0 ≡ p = cc in

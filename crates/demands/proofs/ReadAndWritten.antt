@@ -21,7 +21,7 @@ use Rattle.days_writer.specs.Set.{said, WritesSet}
 use Rattle.days_writer.specs.declared.Wrote.{Wrote}
 use Rattle.record.specs.declared.Record.{Record}
 use Rattle.reader.specs.File.{File, whole, taken, readFile}
-use Rattle.reader.specs.Reader.{openFile, call, told}
+use Rattle.reader.specs.Reader.{openFile, call, answerAt}
 use Rattle.reader.proofs.Laws.{calls}
 use Rattle.held.specs.Held.{printFile}
 use Rattle.writer.specs.Writer.{Left}
@@ -51,8 +51,8 @@ pub file-taken : (s : List ℕ) (rs : List Record) → readFile s ≡ taken rs �
 file-taken = files.file-taken
 
 -- The reader's calls hand out all of these records, then tell the end.
-pub handed-out : (s : List ℕ) (rs : List Record) → TakenFile s rs → (n : ℕ) → call n s (openFile s) ≡ told n rs whole
-handed-out s rs t n = calls s n ∙ ap (λ (f : File). told n (f .records) (f .ending)) (file-taken s rs .1 t)
+pub handed-out : (s : List ℕ) (rs : List Record) → TakenFile s rs → (n : ℕ) → call n s (openFile s) ≡ answerAt n rs whole
+handed-out s rs t n = calls s n ∙ ap (λ (f : File). answerAt n (f .records) (f .ending)) (file-taken s rs .1 t)
 
 -- ---- "Write back what was read: the same bytes."
 -- A usage code,

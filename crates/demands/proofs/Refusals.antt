@@ -11,21 +11,21 @@ use lib.Dec.{eqb, leb, ltb}
 use lib.ListN.{length, getD, drop, length-drop}
 use lib.Seq.{getD-drop}
 use Rattle.cells.specs.Test.{Answer as Reading, took, refused, first, fault}
+use Rattle.cells.specs.declared.Fault.{Fault}
 use Rattle.cells.proofs.Split.{split as cases}
-use Rattle.line.specs.Fields.{join}
+use Rattle.line.specs.Fields.{join, fieldsAt}
 use Rattle.usage.specs.Usage.{readUsage}
 use Rattle.usage.specs.declared.Instruction.{Instruction}
 use Rattle.supplement.specs.Supplement.{readSupplement}
 use Rattle.supplement.specs.declared.Supplement.{Supplement}
 use Rattle.order.specs.Order.{among, records}
 use Rattle.order.specs.Next.{may, refusal as orderRefusal, follow, closes}
-use Rattle.schedule.specs.Kept.{mayJoin}
-use Rattle.field.specs.Field.{present, fits, valued, ordered, numberOf, faultIn, codeFault, listed, wrong, right, refusedWith, readField}
+use Rattle.field.specs.Field.{Context, context, present, fits, valued, ordered, writtenNumber, faultIn, codeFault, listed, wrong, right, refusedWith, ownNumber, readField}
 use Rattle.field.specs.declared.Rule.{Rule}
-use Rattle.field.specs.declared.Sofar.{Sofar}
 use Rattle.field.specs.declared.Field.{Field}
+use Rattle.field.proofs.Bridge.{value-fault}
 use Rattle.row.specs.Table.{rules, counted}
-use Rattle.row.specs.Row.{fieldsAt, fine, fieldByField, readRow}
+use Rattle.row.specs.Row.{fine, fieldByField, readRow}
 use Rattle.row.specs.declared.Row.{Row}
 use Rattle.record_line.specs.Line.{refusal, rowRefusal, recordNumber, readParts, lineAfter, lineAt}
 use Rattle.record.specs.declared.Refusal.{Refusal}
@@ -65,87 +65,87 @@ own-number : (r : Rule) (f : List ℕ) (n p : ℕ) → CodeRefused r f n p → C
 own-number r f n p (usage k e) = inl (usage-refused f n p e)
 own-number r f n p (supplement k e) = inr (supplement-refused f n p e)
 
-module _ (joins : Supplement → Bool) (c : Sofar) where
+module _ (c : Context) where
   -- what is wrong with a field
-  by-wrong : {P : ℕ → Type 0} (r : Rule) (f : List ℕ) → P 0 → ((n : ℕ) → FieldNumber n → P n) → ((codeFault r f .number ≡ 0 → ⊥) → P 29) →
-      P (wrong joins c r f)
+  by-wrong : (P : Fault → Type 0) (r : Rule) (f : List ℕ) → P (fault 0 0) → ((n p : ℕ) → FieldNumber n p → P (fault n p)) →
+      ((codeFault r f .number ≡ 0 → ⊥) → P (fault 29 (codeFault r f .place))) → P (wrong c r f)
   unfolding wrong first
-  by-wrong r [] z n k = cases (present r []) (λ a. simp (a, wrong) z) (λ a. simp (a, wrong) (n 28 need))
-  by-wrong r (b ∷ t) z n k =
+  by-wrong P r [] z n k = cases (present r []) (λ a. simp (a, wrong) z) (λ a. simp (a, wrong) (n 28 0 need))
+  by-wrong P r (b ∷ t) z n k =
       cases (present r (b ∷ t))
       (λ a. cases (fits r (b ∷ t))
       (λ d. cases (valued r (b ∷ t))
-      (λ e. cases (ordered c r (numberOf (b ∷ t)))
+      (λ e. cases (ordered (c .before) r (writtenNumber (b ∷ t)))
       (λ g. cases (eqb (codeFault r (b ∷ t) .number) 0)
-      (λ h. cases (listed joins r (b ∷ t)) (λ i. simp (a, d, e, g, h, i, wrong) z) (λ i. simp (a, d, e, g, h, i, wrong) (n 31 numbers.FieldNumber.list)))
+      (λ h. cases (listed (c .joins) r (b ∷ t)) (λ i. simp (a, d, e, g, h, i, wrong) z) (λ i. simp (a, d, e, g, h, i, wrong) (n 31 0 numbers.FieldNumber.list)))
       (λ h. simp (a, d, e, g, h, wrong) (k (eqb-false _ _ h))))
-      (λ g. simp (a, d, e, g, wrong) (n 30 order)))
-      (λ e. simp (a, d, e, wrong) (n 27 value)))
-      (λ d. simp (a, d, wrong) (n 26 text)))
-      (λ a. simp (a, wrong) (n 28 need))
+      (λ g. simp (a, d, e, g, wrong) (n 30 0 order)))
+      (λ e. simp (a, d, e, wrong, value-fault r (b ∷ t)) (n 27 0 value)))
+      (λ d. simp (a, d, wrong) (n 26 0 text)))
+      (λ a. simp (a, wrong) (n 28 0 need))
 
-  -- a refused field, with a code's own number and place
-  module _ (P : ℕ → ℕ → ℕ → Type 0) (r : Rule) (f : List ℕ) (n : (m : ℕ) → FieldNumber m → wrong joins c r f ≡ m → P m 0 0)
-      (k : (m p : ℕ) → wrong joins c r f ≡ 29 → CodeRefused r f m p → P 29 m p) where
-    abbrev told : ℕ → Field
-    told w = cond (eqb w 0) (right r f) (refusedWith w (cond (eqb w 29) (codeFault r f) (fault 0 0)))
+  -- a refused field, with a code's own number
+  module _ (P : Fault → ℕ → Type 0) (r : Rule) (f : List ℕ) (n : (m p : ℕ) → FieldNumber m p → wrong c r f ≡ fault m p → P (fault m p) 0)
+      (k : (m p : ℕ) → wrong c r f ≡ fault 29 p → CodeRefused r f m p → P (fault 29 p) m) where
+    abbrev told : Fault → Field
+    told w = cond (eqb (w .number) 0) (right r f) (refusedWith w (ownNumber (w .number) r f))
 
-    of-field : (w : ℕ) → FieldNumber w → wrong joins c r f ≡ w → P (told w .number) (told w .code) (told w .place)
-    of-field w need = n 28 need
-    of-field w text = n 26 text
-    of-field w value = n 27 value
-    of-field w order = n 30 order
-    of-field w numbers.FieldNumber.list = n 31 numbers.FieldNumber.list
+    of-field : (m p : ℕ) → FieldNumber m p → wrong c r f ≡ fault m p → P (told (fault m p) .fault) (told (fault m p) .code)
+    of-field m p need = n 28 0 need
+    of-field m p text = n 26 0 text
+    of-field m p value = n 27 0 value
+    of-field m p order = n 30 0 order
+    of-field m p numbers.FieldNumber.list = n 31 0 numbers.FieldNumber.list
 
-    by-field : (readField joins c r f .number ≡ 0 → ⊥) → P (readField joins c r f .number) (readField joins c r f .code) (readField joins c r f .place)
+    by-field : (readField c r f .fault .number ≡ 0 → ⊥) → P (readField c r f .fault) (readField c r f .code)
     unfolding readField
     by-field z =
-        by-wrong {P = λ w. wrong joins c r f ≡ w → (told w .number ≡ 0 → ⊥) → P (told w .number) (told w .code) (told w .place)} r f
-        (λ e y. absurd (y refl)) (λ w h e y. of-field w h e) (λ o e y. k _ _ e (own r f o)) refl z
+        by-wrong (λ w. wrong c r f ≡ w → (told w .fault .number ≡ 0 → ⊥) → P (told w .fault) (told w .code)) r f
+        (λ e y. absurd (y refl)) (λ m p h e y. of-field m p h e) (λ o e y. k _ _ e (own r f o)) refl z
 
   -- ---- a line
   module _ (P : Refusal → Type 0) (at : ℕ) (all : List Rule) (fields : List (List ℕ))
-      (n : (m k : ℕ) (r : Rule) (f : List ℕ) → Reaches joins c 1 all fields k r f → FieldNumber m → wrong joins c r f ≡ m → P (atField m at k 0 0))
-      (o : (m p k : ℕ) (r : Rule) (f : List ℕ) → Reaches joins c 1 all fields k r f → wrong joins c r f ≡ 29 → CodeRefused r f m p → P (atField 29 at k m p)) where
+      (n : (m p k : ℕ) (r : Rule) (f : List ℕ) → Reaches c 1 all fields k r f → FieldNumber m p → wrong c r f ≡ fault m p → P (atField m at k 0 p))
+      (o : (m p k : ℕ) (r : Rule) (f : List ℕ) → Reaches c 1 all fields k r f → wrong c r f ≡ fault 29 p → CodeRefused r f m p → P (atField 29 at k m p)) where
     -- the first wrong field, from the jth on
     by-fields : (j : ℕ) (rs : List Rule) (fs : List (List ℕ)) (row : Row) →
-        ((k : ℕ) (r : Rule) (f : List ℕ) → Reaches joins c j rs fs k r f → Reaches joins c 1 all fields k r f) → row .number ≡ 0 →
-        (fieldByField joins c j rs fs row .number ≡ 0 → ⊥) → P (rowRefusal at (fieldByField joins c j rs fs row))
+        ((k : ℕ) (r : Rule) (f : List ℕ) → Reaches c j rs fs k r f → Reaches c 1 all fields k r f) → row .fault .number ≡ 0 →
+        (fieldByField c j rs fs row .fault .number ≡ 0 → ⊥) → P (rowRefusal at (fieldByField c j rs fs row))
     unfolding fieldByField
     by-fields j [] fs row up e z = absurd (z e)
     by-fields j (r ∷ rs) [] row up e z = absurd (z e)
     by-fields j (r ∷ rs) (f ∷ fs) row up e z =
-        cases (eqb (readField joins c r f .number) 0)
+        cases (eqb (readField c r f .fault .number) 0)
         (λ a. simp a
-        (by-fields (j + 1) rs fs row (λ k q g h. up k q g (next (field-right joins c r f (eqb-true _ _ a)) h)) e (simp a at z)))
+        (by-fields (j + 1) rs fs row (λ k q g h. up k q g (next (field-right c r f (eqb-true _ _ a)) h)) e (simp a at z)))
         (λ a. simp a
-        (by-field (λ m own place. P (atField m at j own place)) r f (λ m b w. n m j r f (up j r f here) b w) (λ m p w b. o m p j r f (up j r f here) w b)
+        (by-field (λ w own. P (atField (w .number) at j own (w .place))) r f (λ m p b w. n m p j r f (up j r f here) b w) (λ m p w b. o m p j r f (up j r f here) w b)
         (eqb-false _ _ a)))
 
 -- A line that is refused: at its record, by its number after the last one or by how many fields it has; at one of its fields, or at a code in one.
-module _ (P : Refusal → Type 0) (joins : Supplement → Bool) (c : Sofar) (at : ℕ) (parts : List (List ℕ))
-    (order : (follow (c .last) (recordNumber parts) ≡ 0 → ⊥) → P (refusal (follow (c .last) (recordNumber parts)) at))
-    (number : follow (c .last) (recordNumber parts) ≡ 0 → counted (recordNumber parts) (drop 1 parts) ≡ false → P (refusal 25 at))
-    (field : (n k : ℕ) (r : Rule) (f : List ℕ) → follow (c .last) (recordNumber parts) ≡ 0 → counted (recordNumber parts) (drop 1 parts) ≡ true →
-    Reaches joins c 1 (rules (recordNumber parts) (drop 1 parts)) (drop 1 parts) k r f → FieldNumber n → wrong joins c r f ≡ n → P (atField n at k 0 0))
-    (code : (n p k : ℕ) (r : Rule) (f : List ℕ) → follow (c .last) (recordNumber parts) ≡ 0 → counted (recordNumber parts) (drop 1 parts) ≡ true →
-    Reaches joins c 1 (rules (recordNumber parts) (drop 1 parts)) (drop 1 parts) k r f → wrong joins c r f ≡ 29 → CodeRefused r f n p →
+module _ (P : Refusal → Type 0) (last : ℕ) (c : Context) (at : ℕ) (parts : List (List ℕ))
+    (order : (follow last (recordNumber parts) ≡ 0 → ⊥) → P (refusal (follow last (recordNumber parts)) at))
+    (number : follow last (recordNumber parts) ≡ 0 → counted (recordNumber parts) (drop 1 parts) ≡ false → P (refusal 25 at))
+    (field : (n p k : ℕ) (r : Rule) (f : List ℕ) → follow last (recordNumber parts) ≡ 0 → counted (recordNumber parts) (drop 1 parts) ≡ true →
+    Reaches c 1 (rules (recordNumber parts) (drop 1 parts)) (drop 1 parts) k r f → FieldNumber n p → wrong c r f ≡ fault n p → P (atField n at k 0 p))
+    (code : (n p k : ℕ) (r : Rule) (f : List ℕ) → follow last (recordNumber parts) ≡ 0 → counted (recordNumber parts) (drop 1 parts) ≡ true →
+    Reaches c 1 (rules (recordNumber parts) (drop 1 parts)) (drop 1 parts) k r f → wrong c r f ≡ fault 29 p → CodeRefused r f n p →
     P (atField 29 at k n p)) where
   -- the number of fields, then field by field
-  by-row : (from : ℕ) → follow (c .last) (recordNumber parts) ≡ 0 → (readRow joins c (recordNumber parts) from (drop 1 parts) .number ≡ 0 → ⊥) →
-      P (rowRefusal at (readRow joins c (recordNumber parts) from (drop 1 parts)))
+  by-row : (from : ℕ) → follow last (recordNumber parts) ≡ 0 → (readRow c (recordNumber parts) from (drop 1 parts) .fault .number ≡ 0 → ⊥) →
+      P (rowRefusal at (readRow c (recordNumber parts) from (drop 1 parts)))
   unfolding readRow
   by-row from y z =
       cases (counted (recordNumber parts) (drop 1 parts))
       (λ a. simp a
-      (by-fields joins c P at (rules (recordNumber parts) (drop 1 parts)) (drop 1 parts) (λ m k r f h b w. field m k r f y a h b w)
+      (by-fields c P at (rules (recordNumber parts) (drop 1 parts)) (drop 1 parts) (λ m p k r f h b w. field m p k r f y a h b w)
       (λ m p k r f h w b. code m p k r f y a h w b) 1 (rules (recordNumber parts) (drop 1 parts)) (drop 1 parts) (fine _) (λ k r f h. h) refl (simp a at z)))
       (λ a. simp a (number y a))
 
-  pub by-parts : (f : Refusal) → readParts joins c at parts ≡ Refused f → P f
+  pub by-parts : (f : Refusal) → readParts last c at parts ≡ Refused f → P f
   unfolding readParts
   by-parts f h =
-      by-refused joins c at (recordNumber parts) (at + length (getD parts 0 []) + 1) (drop 1 parts) f h (λ z e. subst P e (order z))
+      by-refused last c at (recordNumber parts) (at + length (getD parts 0 []) + 1) (drop 1 parts) f h (λ z e. subst P e (order z))
       (λ y z e. subst P e (by-row _ y z))
 
 -- what a record number is told after the last one
@@ -159,26 +159,26 @@ by-order q n z =
     (λ a. simp a unknown)
 
 -- The numbers alone.
-pub by-number : (P : ℕ → Type 0) (joins : Supplement → Bool) (c : Sofar) (at : ℕ) (parts : List (List ℕ)) →
-    ((n : ℕ) → RecordNumber n → P n) → ((n : ℕ) → FieldNumber n → P n) → P 29 → (f : Refusal) → readParts joins c at parts ≡ Refused f → P (f .number)
-by-number P joins c at parts g n o =
-    by-parts (λ f. P (f .number)) joins c at parts (λ z. g _ (by-order (c .last) (recordNumber parts) z)) (λ y a. g 25 numbers.RecordNumber.count)
-    (λ m k r f y a h b w. n m b) (λ m p k r f y a h w b. o)
+pub by-number : (P : ℕ → Type 0) (last : ℕ) (c : Context) (at : ℕ) (parts : List (List ℕ)) →
+    ((n : ℕ) → RecordNumber n → P n) → ((n p : ℕ) → FieldNumber n p → P n) → P 29 → (f : Refusal) → readParts last c at parts ≡ Refused f → P (f .fault .number)
+by-number P last c at parts g n o =
+    by-parts (λ f. P (f .fault .number)) last c at parts (λ z. g _ (by-order last (recordNumber parts) z)) (λ y a. g 25 numbers.RecordNumber.count)
+    (λ m p k r f y a h b w. n m p b) (λ m p k r f y a h w b. o)
 
 -- ---- a call in any state
 -- a field that is reached is one of the line's
-reached : (joins : Supplement → Bool) (c : Sofar) (j : ℕ) (rs : List Rule) (fs : List (List ℕ)) (k : ℕ) (r : Rule) (f : List ℕ) → Reaches joins c j rs fs k r f →
+reached : (c : Context) (j : ℕ) (rs : List Rule) (fs : List (List ℕ)) (k : ℕ) (r : Rule) (f : List ℕ) → Reaches c j rs fs k r f →
     (j ≤ k) × (k < j + length fs) × (getD fs (k - j) [] ≡ f)
-reached joins c j rs fs k r f (here {fs = gs}) = let z : j - j ≡ 0 = omega arith in (omega arith, omega arith, rw z)
-reached joins c j rs fs k r f (next {rs = qs} {fs = gs} p h) =
-    let u = reached joins c (j + 1) qs gs k r f h in
+reached c j rs fs k r f (here {fs = gs}) = let z : j - j ≡ 0 = omega arith in (omega arith, omega arith, rw z)
+reached c j rs fs k r f (next {rs = qs} {fs = gs} p h) =
+    let u = reached c (j + 1) qs gs k r f h in
     let z : k - j ≡ suc (k - (j + 1)) = omega arith in
     (omega arith, omega arith, rw z (u .2))
 
-in-line : (joins : Supplement → Bool) (c : Sofar) (parts : List (List ℕ)) (rs : List Rule) (k : ℕ) (r : Rule) (f : List ℕ) →
-    Reaches joins c 1 rs (drop 1 parts) k r f → (1 ≤ k) × (k < length parts) × (getD parts k [] ≡ f)
-in-line joins c parts rs k r f h =
-    let u = reached joins c 1 rs (drop 1 parts) k r f h in
+in-line : (c : Context) (parts : List (List ℕ)) (rs : List Rule) (k : ℕ) (r : Rule) (f : List ℕ) →
+    Reaches c 1 rs (drop 1 parts) k r f → (1 ≤ k) × (k < length parts) × (getD parts k [] ≡ f)
+in-line c parts rs k r f h =
+    let u = reached c 1 rs (drop 1 parts) k r f h in
     let z : 1 + (k - 1) ≡ k = omega arith in
     (u .0, omega (arith, length-drop 1 parts), ap (λ (i : ℕ). getD parts i []) (sym z) ∙ sym (getD-drop 1 parts (k - 1) []) ∙ u .2)
 
@@ -193,22 +193,19 @@ module _ (s : List ℕ) where
       let k : Refuses (refusal 32 (t .at)) ≡ Refuses f = simp (eq-eqb _ _ z, a, b) at h in
       let d : refusal 32 (t .at) ≡ f = cc in
       subst (LineRefusal s (t .at)) d (numbers.LineRefusal.ofRecord missing)))
-      (λ a. by (readParts joins (t .sofar) (t .at) (fieldsAt s (t .at))) refl (simp (eq-eqb _ _ z, a) at h))
+      (λ a. by (readParts (t .sofar .last) (context (t .sofar .before)) (t .at) (fieldsAt s (t .at))) refl (simp (eq-eqb _ _ z, a) at h))
     where
-      joins : Supplement → Bool
-      joins = mayJoin (t .sofar .month) (t .sofar .schedule)
-
       n : ℕ
       n = t .at + length (join (fieldsAt s (t .at))) + 2
 
-      by : (a : Answer) → readParts joins (t .sofar) (t .at) (fieldsAt s (t .at)) ≡ a →
+      by : (a : Answer) → readParts (t .sofar .last) (context (t .sofar .before)) (t .at) (fieldsAt s (t .at)) ≡ a →
           upon t (lineAfter (t .sofar) a n .answer) (lineAfter (t .sofar) a n .next) .next ≡ Refuses f → LineRefusal s (t .at) f
       by (Took r) e k = absurd (let y : _≡_ {A = ℕ} 0 1 = cc in omega arith)
       by (Refused g) e k =
           let d : g ≡ f = cc in
-          by-parts (LineRefusal s (t .at)) joins (t .sofar) (t .at) (fieldsAt s (t .at))
+          by-parts (LineRefusal s (t .at)) (t .sofar .last) (context (t .sofar .before)) (t .at) (fieldsAt s (t .at))
           (λ z. numbers.LineRefusal.ofRecord (by-order (t .sofar .last) (recordNumber (fieldsAt s (t .at))) z))
           (λ y a. numbers.LineRefusal.ofRecord numbers.RecordNumber.count)
-          (λ m j r g y a u b w. let v = in-line joins (t .sofar) (fieldsAt s (t .at)) _ j r g u in numbers.LineRefusal.ofField (v .0) (v .1) b)
-          (λ m p j r g y a u w b. let v = in-line joins (t .sofar) (fieldsAt s (t .at)) _ j r g u in
+          (λ m p j r g y a u b w. let v = in-line (context (t .sofar .before)) (fieldsAt s (t .at)) _ j r g u in numbers.LineRefusal.ofField (v .0) (v .1) b)
+          (λ m p j r g y a u w b. let v = in-line (context (t .sofar .before)) (fieldsAt s (t .at)) _ j r g u in
           numbers.LineRefusal.ofCode (v .0) (v .1) (subst (λ (x : List ℕ). CodeNumber x m p) (sym (v .2)) (own-number r g m p b))) f (e ∙ ap Refused d)

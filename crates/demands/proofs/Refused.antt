@@ -8,6 +8,7 @@ use native.Mathlib.Omega.{arith}
 use borrow.Author.Tests.{eqb-true, eqb-false, leb-true, leb-false}
 use lib.Dec.{eqb, leb}
 use lib.ListN.{length, getD, drop, length-drop}
+use Rattle.cells.specs.Limits.{fileMost}
 use Rattle.cells.specs.Text.{bytes}
 use Rattle.cells.specs.Test.{first}
 use Rattle.cells.proofs.Split.{split as cases}
@@ -20,20 +21,19 @@ use Rattle.order.specs.Order as order
 use Rattle.order.specs.Next.{follow, closes}
 use Rattle.order.proofs.Bools.{clash}
 use Rattle.order.proofs.Laws.{at-start, last-is, closing, judged, stands}
-use Rattle.field.specs.declared.Sofar.{Sofar}
-use Rattle.record.specs.Record.{start, after, supplements}
+use Rattle.record.specs.declared.Sofar.{Sofar}
+use Rattle.record.specs.Record.{numberOf, start, after, supplements}
 use Rattle.record_line.specs.Line.{refusal, readParts}
 use Rattle.record.specs.declared.Record.{Record}
 use Rattle.record.specs.declared.Refusal.{Refusal}
 use Rattle.record.specs.declared.Answer.{Answer}
 use Rattle.record.specs.declared.Answer.the-variants.{Took, Refused}
 use Rattle.reader.specs.Open.{versionLine, fileFault}
-use Rattle.reader.specs.File.{File, stopped, linesOf, on, readLines, readFile, numberOf}
+use Rattle.reader.specs.File.{File, stopped, linesOf, on, readLines, readFile, inList}
 use Rattle.reader.proofs.Lines.{opens, lines-of, after-line}
-use Rattle.reader.proofs.Order.{its-number, leaves-number}
+use Rattle.reader.proofs.Order.{its-number}
 use Rattle.held.proofs.Taken.{taken}
 use Rattle.writer.proofs.Laws.{not-long}
-use Rattle.demands.specs.Taken.{joinsAfter}
 use Rattle.demands.specs.Refused.{startAfter, leaving, supplied, numberOn, WrongLine, unknown, hopeless, missing, field, code, Opens, FileRefusal, tooLong, frame, version}
 use Rattle.demands.specs.Refused as refused
 use Rattle.demands.proofs.Refusals.{by-parts}
@@ -54,18 +54,18 @@ module _ (before : List ℕ) (c : Sofar) (xs : List Supplement) (at : ℕ) (l : 
   of-verdict n (order.Verdict.missing a h) z = missing (order.Verdict.missing a h)
 
   -- a line that is refused
-  line-wrong : (f : Refusal) → readParts (joinsAfter c xs) c at (split l) ≡ Refused f → WrongLine before c xs at l f
+  line-wrong : (f : Refusal) → readParts (c .last) (inList (c .before) xs) at (split l) ≡ Refused f → WrongLine before c xs at l f
   line-wrong =
-      by-parts (WrongLine before c xs at l) (joinsAfter c xs) c at (split l) (λ z. of-verdict _ verdict z) (λ y a. refused.WrongLine.count (well-there y) a)
-      (λ n k r f y a h i w. field (record { stands = well-there y; count = a; reaches = h }) i w)
+      by-parts (WrongLine before c xs at l) (c .last) (inList (c .before) xs) at (split l) (λ z. of-verdict _ verdict z) (λ y a. refused.WrongLine.count (well-there y) a)
+      (λ n p k r f y a h i w. field (record { stands = well-there y; count = a; reaches = h }) i w)
       (λ n p k r f y a h w i. code (record { stands = well-there y; count = a; reaches = h }) w i)
 
   -- the record of one that is taken stands well
-  pub taken-stands : (r : Record) → readParts (joinsAfter c xs) c at (split l) ≡ Took r → Begins (before ++ (numberOf r ∷ []))
+  pub taken-stands : (r : Record) → readParts (c .last) (inList (c .before) xs) at (split l) ≡ Took r → Begins (before ++ (numberOf r ∷ []))
   unfolding readParts
   taken-stands r h =
       let from : ℕ = at + length (getD (split l) 0 []) + 1 in
-      let t = taken (joinsAfter c xs) c at (numberOn l) from (drop 1 (split l)) r h in
+      let t = taken (c .last) (inList (c .before) xs) at (numberOn l) from (drop 1 (split l)) r h in
       let n : numberOf r ≡ numberOn l = ap numberOf (sym (t .is)) ∙ its-number (numberOn l) from (drop 1 (split l)) in
       stands before (numberOf r) b .0 (ap (λ (q : ℕ). follow q (numberOf r)) (sym e) ∙ ap (follow (c .last)) n ∙ t .follows)
 
@@ -79,20 +79,20 @@ pub data Stops (at : ℕ) (c : Sofar) (xs : List Supplement) (before : List ℕ)
 
 module _ (at : ℕ) (c : Sofar) (xs : List Supplement) (before : List ℕ) (l : List ℕ) (ls : List (List ℕ)) where
   -- the line is one of those
-  later : (r : Record) (rs : List Record) (f : Refusal) → Stops (at + length l + 2) (after c r) (supplements xs r) (before ++ (numberOf r ∷ [])) ls rs f →
+  later : (r : Record) (rs : List Record) (f : Refusal) → Stops (at + length l + 2) (after (c .before) r) (supplements xs r) (before ++ (numberOf r ∷ [])) ls rs f →
       Stops at c xs before (l ∷ ls) (r ∷ rs) f
   later r rs f (atLine h w) =
       atLine (omega arith)
       (subst
-      (λ (x : List ℕ). WrongLine x (leaving (after c r) rs) (supplied (supplements xs r) rs) (startAfter (at + length l + 2) ls (length rs)) (getD ls (length rs) []) f)
+      (λ (x : List ℕ). WrongLine x (leaving (after (c .before) r) rs) (supplied (supplements xs r) rs) (startAfter (at + length l + 2) ls (length rs)) (getD ls (length rs) []) f)
       (append-assoc before (numberOf r ∷ []) (map numberOf rs)) w)
   later r rs f (atEnd h w) = atEnd (omega arith) (λ x. w (subst Sheet (sym (append-assoc before (numberOf r ∷ []) (map numberOf rs))) x))
 
   -- or it is refused itself
   by-line : Begins before → c .last ≡ lastOf 0 before → (f : Refusal) (rest : Record → File) →
       ((r : Record) → Begins (before ++ (numberOf r ∷ [])) → rest r .ending ≡ stopped f →
-      Stops (at + length l + 2) (after c r) (supplements xs r) (before ++ (numberOf r ∷ [])) ls (rest r .records) f) →
-      (a : Answer) → readParts (joinsAfter c xs) c at (split l) ≡ a → on a rest .ending ≡ stopped f → Stops at c xs before (l ∷ ls) (on a rest .records) f
+      Stops (at + length l + 2) (after (c .before) r) (supplements xs r) (before ++ (numberOf r ∷ [])) ls (rest r .records) f) →
+      (a : Answer) → readParts (c .last) (inList (c .before) xs) at (split l) ≡ a → on a rest .ending ≡ stopped f → Stops at c xs before (l ∷ ls) (on a rest .records) f
   by-line b e f rest more (Took r) h w = later r (rest r .records) f (more r (taken-stands before c xs at l b e r h) w)
   by-line b e f rest more (Refused g) h w =
       let q : g ≡ f = cc in
@@ -111,10 +111,10 @@ by-lines f [] at c xs before b e h =
     (subst (Stops at c xs before [] []) q
     (atEnd refl (λ w. clash (ap closes e ∙ closing before b .1 (rw (append-nil before) at w)) a))))
 by-lines f (l ∷ ls) at c xs before b e h =
-    by-line at c xs before l ls b e f (λ r. readLines (at + length l + 2) (after c r) (supplements xs r) ls)
-    (λ r k w. by-lines f ls (at + length l + 2) (after c r) (supplements xs r) (before ++ (numberOf r ∷ [])) k
-    (leaves-number c r ∙ sym (last-is 0 (numberOf r) before)) w)
-    (readParts (joinsAfter c xs) c at (split l)) refl h
+    by-line at c xs before l ls b e f (λ r. readLines (at + length l + 2) (after (c .before) r) (supplements xs r) ls)
+    (λ r k w. by-lines f ls (at + length l + 2) (after (c .before) r) (supplements xs r) (before ++ (numberOf r ∷ [])) k
+    (sym (last-is 0 (numberOf r) before)) w)
+    (readParts (c .last) (inList (c .before) xs) at (split l)) refl h
 
 -- ---- the file
 module _ (s : List ℕ) where
@@ -166,7 +166,7 @@ module _ (s : List ℕ) where
   by-fault : (fileFault s .number ≡ 0 → ⊥) → FileRefusal s [] (refusal (fileFault s .number) (fileFault s .place))
   unfolding fileFault first
   by-fault z =
-      cases (leb (length s) 16384)
+      cases (leb (length s) fileMost)
       (λ a. frame-cases s
       (λ w e. cases (versionLine s) (λ b. absurd (simp (a, b, e) at z refl)) (λ b. simp (a, b, e) (version (leb-true _ _ a) w (no-version w b))))
       (λ k p e. simp (a, e) (frame (leb-true _ _ a) p)))

@@ -8,6 +8,7 @@ use native.Mathlib.Omega.{arith}
 use borrow.Author.Tests.{eqb-true, leb-true, ltb-true, ltb-false}
 use lib.Dec.{eqb, leb, ltb}
 use lib.ListN.{length, getD, drop}
+use Rattle.line.specs.Fields.{nth}
 use Rattle.cells.specs.Test.{Answer, took, refused}
 use Rattle.cells.proofs.Split.{split}
 use Rattle.cells.proofs.Alike.{and-left, and-right}
@@ -23,10 +24,10 @@ use Rattle.order.specs.Next.{stops, anew, may, refusal, follow}
 use Rattle.order.proofs.Bools.{both}
 use Rattle.order.proofs.Chain.{step, risen, begun}
 use Rattle.field.specs.Field.{isTaken}
-use Rattle.field.specs.declared.Sofar.{Sofar}
-use Rattle.row.specs.Table.{nth, typed, rules, rulesFrom}
-use Rattle.record.specs.Record.{after, withSupplement}
-use Rattle.record_line.specs.Fields.{dateIn, supplementIn, recordOf}
+use Rattle.field.specs.Field.{Context}
+use Rattle.row.specs.Table.{typed, rules, rulesFrom}
+use Rattle.record.specs.Record.{numberOf, withSupplement, dateIn, supplementIn, recordFrom}
+use Rattle.record_line.specs.Fields.{recordOf}
 use Rattle.record_line.specs.Line.{recordNumber, readParts}
 use Rattle.record.specs.declared.Record.{Record}
 use Rattle.record.specs.declared.Record.the-variants.{Issue, Rp, Usage, Supplement as Supply, Drug, Kept}
@@ -105,35 +106,35 @@ Right (Supply x) = Reads (withSupplement [] (x .code))
 Right (Drug x) = Unit
 Right (Kept x) = typed (x .number) ≡ false
 
-pub record Stood (c : Sofar) (r : Record) : Type 0 where
-  pub follows : follow (c .last) (after c r .last) ≡ 0
+pub record Stood (last : ℕ) (r : Record) : Type 0 where
+  pub follows : follow last (numberOf r) ≡ 0
   pub right : Right r
 
-module _ (joins : Supplement → Bool) (c : Sofar) where
-  month-51 : (fs : List (List ℕ)) → Fine joins c 51 fs → (1 ≤ dateIn (readDate (nth 1 fs)) .month) × (dateIn (readDate (nth 1 fs)) .month ≤ 12)
+module _ (last : ℕ) (c : Context) where
+  month-51 : (fs : List (List ℕ)) → Fine c 51 fs → (1 ≤ dateIn (readDate (nth 1 fs)) .month) × (dateIn (readDate (nth 1 fs)) .month ≤ 12)
   unfolding rules rulesFrom typed
   month-51 fs w =
       let l : length fs ≡ 1 = w .count in
-      month-read (nth 1 fs) (readDate (nth 1 fs)) refl (day-read joins c (nth 1 fs) (w .passes 0 (omega arith)))
+      month-read (nth 1 fs) (readDate (nth 1 fs)) refl (day-read c (nth 1 fs) (w .passes 0 (omega arith)))
 
-  of-number : (n at : ℕ) (fs : List (List ℕ)) → follow (c .last) n ≡ 0 → Fine joins c n fs → Stood c (recordOf n at fs)
-  unfolding recordOf typed
+  of-number : (n at : ℕ) (fs : List (List ℕ)) → follow last n ≡ 0 → Fine c n fs → Stood last (recordOf n at fs)
+  unfolding recordOf recordFrom typed
   of-number n at fs h w =
-      split (eqb n 51) (λ a. simp a (record { follows = is 51 a; right = month-51 fs (subst (λ (m : ℕ). Fine joins c m fs) (eqb-true n 51 a) w) }))
+      split (eqb n 51) (λ a. simp a (record { follows = is 51 a; right = month-51 fs (subst (λ (m : ℕ). Fine c m fs) (eqb-true n 51 a) w) }))
       (λ a. split (eqb n 101) (λ b. simp (a, b) (record { follows = is 101 b; right = tt }))
       (λ b. split (eqb n 111) (λ d. simp (a, b, d) (record { follows = is 111 d; right = tt }))
       (λ d. split (eqb n 181) (λ e. simp (a, b, d, e) (record { follows = is 181 e; right = code-read (nth 5 fs) (readSupplement (nth 5 fs)) refl }))
       (λ e. split (eqb n 201) (λ f. simp (a, b, d, e, f) (record { follows = is 201 f; right = tt }))
       (λ f. simp (a, b, d, e, f) (record { follows = h; right = simp (a, b, d, e, f) }))))))
     where
-      is : (m : ℕ) → eqb n m ≡ true → follow (c .last) m ≡ 0
-      is m e = subst (λ (k : ℕ). follow (c .last) k ≡ 0) (eqb-true n m e) h
+      is : (m : ℕ) → eqb n m ≡ true → follow last m ≡ 0
+      is m e = subst (λ (k : ℕ). follow last k ≡ 0) (eqb-true n m e) h
 
   -- A record that is taken is so.
-  pub stood : (at : ℕ) (ps : List (List ℕ)) (r : Record) → readParts joins c at ps ≡ Took r → Stood c r
+  pub stood : (at : ℕ) (ps : List (List ℕ)) (r : Record) → readParts last c at ps ≡ Took r → Stood last r
   unfolding readParts
   stood at ps r h =
       let n : ℕ = recordNumber ps in
       let from : ℕ = at + length (getD ps 0 []) + 1 in
-      let t = taken joins c at n from (drop 1 ps) r h in
-      subst (Stood c) (t .is) (of-number n from (drop 1 ps) (t .follows) (t .fine))
+      let t = taken last c at n from (drop 1 ps) r h in
+      subst (Stood last) (t .is) (of-number n from (drop 1 ps) (t .follows) (t .fine))

@@ -17,7 +17,7 @@ use Rattle.order.specs.Next.{follow, closes}
 use Rattle.order.proofs.Bools.{clash}
 use Rattle.schedule.specs.Schedule.{list}
 use Rattle.schedule.proofs.Laws.{nothing-kept}
-use Rattle.field.specs.declared.Sofar.{Sofar}
+use Rattle.record.specs.declared.Sofar.{Sofar}
 use Rattle.row.specs.Table.{typed}
 use Rattle.record.specs.Record.{textAt, start, after, withSupplement, supplements}
 use Rattle.record_line.specs.Line.{readParts}
@@ -29,9 +29,9 @@ use Rattle.record.specs.declared.Record.{Record}
 use Rattle.record.specs.declared.Record.the-variants.{Issue, Rp, Usage, Supplement as Supply, Drug, Kept}
 use Rattle.record.specs.declared.Answer.{Answer}
 use Rattle.record.specs.declared.Answer.the-variants.{Took, Refused}
-use Rattle.record_line.proofs.Leaves.{Keeps, leaves}
+use Rattle.record_line.proofs.Leaves.{Keeps, keeps-on}
 use Rattle.reader.specs.Open.{fileFault}
-use Rattle.reader.specs.File.{File, whole, taken, linesOf, on, readLines, readFile}
+use Rattle.reader.specs.File.{File, whole, taken, linesOf, on, readLines, readFile, inList}
 use Rattle.held.specs.Held.{Value, none, number, amount, text, day, usage, supplement, Held, optional, usageValue, supplementValue, held}
 use Rattle.held.proofs.File.{never-whole}
 use Rattle.demands.specs.Blank.{dateIn, datesIn, beginsRp, datesUpto}
@@ -110,18 +110,18 @@ EachRp m (h ∷ hs) = (beginsRp h ≡ true → Noted m (datesIn (h .values) ++ d
 -- ---- along the records
 -- What is known before a record: the supplements so far are an allowed list and were read, and after record 51 there is a month.
 record Sure (c : Sofar) (xs : List Supplement) : Type 0 where
-  keeps : Keeps c xs
+  keeps : Keeps (c .before) xs
   read : Reads xs
-  month : 51 ≤ c .last → (1 ≤ c .month) × (c .month ≤ 12)
+  month : 51 ≤ c .last → (1 ≤ c .before .month) × (c .before .month ≤ 12)
 
 -- What holds of the records from there on.
 record Rest (s : List ℕ) (c : Sofar) (xs : List Supplement) (rs : List Record) : Type 0 where
-  within : 101 ≤ c .last → InRp (c .month) (xs ++ upto rs)
+  within : 101 ≤ c .last → InRp (c .before .month) (xs ++ upto rs)
   ahead : c .last < 101 → upto rs ≡ []
-  each : EachRp (c .month) (holds s rs)
+  each : EachRp (c .before .month) (holds s rs)
 
 -- the RP ends here
-closed : (c : Sofar) (xs : List Supplement) → Sure c xs → 101 ≤ c .last → InRp (c .month) (xs ++ [])
+closed : (c : Sofar) (xs : List Supplement) → Sure c xs → 101 ≤ c .last → InRp (c .before .month) (xs ++ [])
 closed c xs k l =
     let m = k .month (omega arith) in
     rw (append-nil xs) (record { low = m .0; high = m .1; listed = k .keeps .listed; read = k .read })
@@ -149,7 +149,7 @@ unfolding typed
 is-101 = refl
 
 -- what is known after a record
-sure : (c : Sofar) (xs : List Supplement) (r : Record) → Sure c xs → Stood c r → Keeps (after c r) (supplements xs r) → Sure (after c r) (supplements xs r)
+sure : (c : Sofar) (xs : List Supplement) (r : Record) → Sure c xs → Stood (c .last) r → Keeps (after (c .before) r .before) (supplements xs r) → Sure (after (c .before) r) (supplements xs r)
 sure c xs (Issue x) k t e = record { keeps = e; read = tt; month = λ l. t .right }
 sure c xs (Rp x) k t e = record { keeps = e; read = tt; month = λ l. k .month (after-51 (c .last) 101 (t .follows) (omega arith)) }
 sure c xs (Usage x) k t e = record { keeps = e; read = k .read; month = λ l. k .month (after-51 (c .last) 111 (t .follows) (omega arith)) }
@@ -172,7 +172,7 @@ not-ahead : {P : Type 0} (q n : ℕ) → follow q n ≡ 0 → 101 < n → q < 10
 not-ahead q n h l b = absurd (let k : 101 ≤ q = after-101 q n h l in omega arith)
 
 -- what holds from a record on, where it holds after it
-rest : (s : List ℕ) (c : Sofar) (xs : List Supplement) (r : Record) (rs : List Record) → Sure c xs → Stood c r → Rest s (after c r) (supplements xs r) rs → Rest s c xs (r ∷ rs)
+rest : (s : List ℕ) (c : Sofar) (xs : List Supplement) (r : Record) (rs : List Record) → Sure c xs → Stood (c .last) r → Rest s (after (c .before) r) (supplements xs r) rs → Rest s c xs (r ∷ rs)
 rest s c xs (Issue x) rs k t o =
     record {
       within = λ l. absurd (let h = no-header (c .last) 51 (t .follows) l in omega arith);
@@ -183,7 +183,7 @@ rest s c xs (Rp x) rs k t o =
     record {
       within = closed c xs k;
       ahead = λ l. refl;
-      each = (λ e. rw (dates-upto s rs) (noted (c .month) (upto rs) (o .within (omega arith))), o .each);
+      each = (λ e. rw (dates-upto s rs) (noted (c .before .month) (upto rs) (o .within (omega arith))), o .each);
     }
 rest s c xs (Usage x) rs k t o =
     record {
@@ -209,19 +209,19 @@ rest s c xs (Kept x) rs k t o =
       ahead =
           λ l. cases (ltb (x .number) 101) (λ e. o .ahead (ltb-true _ _ e))
           (λ e. not-ahead (c .last) (x .number) (t .follows) (past 101 (x .number) is-101 (t .right) (ltb-false _ _ e)) l);
-      each = (λ e. clash e (no-rp (x .number)), rw (month-stays (c .month) (split (textAt s (x .fields)))) (o .each));
+      each = (λ e. clash e (no-rp (x .number)), rw (month-stays (c .before .month) (split (textAt s (x .fields)))) (o .each));
     }
 
 -- ---- along the lines
 module _ (s : List ℕ) where
   -- one line, and those after it
   line-rest : (c : Sofar) (xs : List Supplement) → Sure c xs → (at : ℕ) (l : List ℕ) (more : Record → File) →
-      ((r : Record) → Sure (after c r) (supplements xs r) → more r .ending ≡ whole → Rest s (after c r) (supplements xs r) (more r .records)) →
-      (a : Answer) → readParts (λ x. list (c .month) (xs ++ (x ∷ []))) c at (split l) ≡ a → on a more .ending ≡ whole → Rest s c xs (on a more .records)
+      ((r : Record) → Sure (after (c .before) r) (supplements xs r) → more r .ending ≡ whole → Rest s (after (c .before) r) (supplements xs r) (more r .records)) →
+      (a : Answer) → readParts (c .last) (inList (c .before) xs) at (split l) ≡ a → on a more .ending ≡ whole → Rest s c xs (on a more .records)
   line-rest c xs k at l more f (Took r) h w =
-      let joins : Supplement → Bool = λ x. list (c .month) (xs ++ (x ∷ [])) in
-      let t = stood joins c at (split l) r h in
-      rest s c xs r (more r .records) k t (f r (sure c xs r k t (leaves c xs (k .keeps) joins (λ x. refl) at (split l) r h)) w)
+      let t = stood (c .last) (inList (c .before) xs) at (split l) r h in
+      let e = keeps-on (c .before) xs (k .keeps) (λ x. list (c .before .month) (xs ++ (x ∷ []))) (λ x. refl) (c .last) at (split l) r h in
+      rest s c xs r (more r .records) k t (f r (sure c xs r k t e) w)
   line-rest c xs k at l more f (Refused x) h w = never-whole w
 
   lines-rest : (ls : List (List ℕ)) (at : ℕ) (c : Sofar) (xs : List Supplement) → Sure c xs → readLines at c xs ls .ending ≡ whole → Rest s c xs (readLines at c xs ls .records)
@@ -229,9 +229,9 @@ module _ (s : List ℕ) where
   lines-rest [] at c xs k w =
       cases (closes (c .last)) (λ t. simp t (record { within = closed c xs k; ahead = λ l. refl; each = tt })) (λ t. never-whole (simp t at w))
   lines-rest (l ∷ ls) at c xs k w =
-      line-rest c xs k at l (λ r. readLines (at + length l + 2) (after c r) (supplements xs r) ls)
-      (λ r v. lines-rest ls (at + length l + 2) (after c r) (supplements xs r) v)
-      (readParts (λ x. list (c .month) (xs ++ (x ∷ []))) c at (split l)) refl w
+      line-rest c xs k at l (λ r. readLines (at + length l + 2) (after (c .before) r) (supplements xs r) ls)
+      (λ r v. lines-rest ls (at + length l + 2) (after (c .before) r) (supplements xs r) v)
+      (readParts (c .last) (inList (c .before) xs) at (split l)) refl w
 
   at-start : Sure start []
   unfolding start

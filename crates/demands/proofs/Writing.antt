@@ -9,10 +9,11 @@ use borrow.Author.Tests.{leb-true}
 use lib.Dec.{leb}
 use lib.ListN.{length, take, drop, length-append}
 use lib.Seq.{take-at, drop-at, length-take-le}
+use Rattle.cells.specs.Limits.{fileMost}
 use Rattle.cells.specs.Text.{bytes}
 use Rattle.order.specs.Next.{closes}
-use Rattle.schedule.specs.Kept.{mayJoin}
-use Rattle.field.specs.declared.Sofar.{Sofar}
+use Rattle.field.specs.Field.{context}
+use Rattle.record.specs.declared.Sofar.{Sofar}
 use Rattle.record.specs.Record.{start, after}
 use Rattle.record_line.specs.Line.{readParts}
 use Rattle.record.specs.declared.Record.{Record}
@@ -64,9 +65,9 @@ module _ (out : List ℕ) (t : State) where
   line-answers : (l : List ℕ) (c : Sofar) → Answers out t (putLine out t l c)
   unfolding room
   line-answers l c =
-      either (leb (t .at + (length l + 3)) (min (length out) 16384))
+      either (leb (t .at + (length l + 3)) (min (length out) fileMost))
       (λ a.
-      let m : t .at + (length l + 3) ≤ min (length out) 16384 = leb-true _ _ a in
+      let m : t .at + (length l + 3) ≤ min (length out) fileMost = leb-true _ _ a in
       record {
         wrote = λ z. put-only out (ended l) (t .at) (t .at + (length l + 2)) (ap (λ (k : ℕ). t .at + k) (length-append l (0x0d ∷ 0x0a ∷ []))) (omega arith);
         refused = λ z. absurd (z refl);
@@ -77,27 +78,27 @@ module _ (out : List ℕ) (t : State) where
   unfolding putRecord
   record-answers r lent =
       either (t .closed) (λ a. would-refuse 24 (numbers.WriterNumber.ofRecord hopeless))
-      (λ a. by (readParts (mayJoin (t .sofar .month) (t .sofar .schedule)) (t .sofar) (t .at) (parts (lentHeld lent r))) refl)
+      (λ a. by (readParts (t .sofar .last) (context (t .sofar .before)) (t .at) (parts (lentHeld lent r))) refl)
     where
-      own : (f : Refusal) → readParts (mayJoin (t .sofar .month) (t .sofar .schedule)) (t .sofar) (t .at) (parts (lentHeld lent r)) ≡ Refused f →
-          WriterNumber 34 (f .number)
+      own : (f : Refusal) → readParts (t .sofar .last) (context (t .sofar .before)) (t .at) (parts (lentHeld lent r)) ≡ Refused f →
+          WriterNumber 34 (f .fault .number)
       own =
-          by-number (WriterNumber 34) (mayJoin (t .sofar .month) (t .sofar .schedule)) (t .sofar) (t .at) (parts (lentHeld lent r))
-          (λ n b. numbers.WriterNumber.ofRecord b) (λ n b. numbers.WriterNumber.ofField b) numbers.WriterNumber.ofCode
+          by-number (WriterNumber 34) (t .sofar .last) (context (t .sofar .before)) (t .at) (parts (lentHeld lent r))
+          (λ n b. numbers.WriterNumber.ofRecord b) (λ n p b. numbers.WriterNumber.ofField b) numbers.WriterNumber.ofCode
 
-      by : (a : Answer) → readParts (mayJoin (t .sofar .month) (t .sofar .schedule)) (t .sofar) (t .at) (parts (lentHeld lent r)) ≡ a →
-          Answers out t (onAnswer out t a (printRecord (lentHeld lent r)) (after (t .sofar) r))
-      by (Took q) e = line-answers (printRecord (lentHeld lent r)) (after (t .sofar) r)
-      by (Refused f) e = would-refuse (f .number) (own f e)
+      by : (a : Answer) → readParts (t .sofar .last) (context (t .sofar .before)) (t .at) (parts (lentHeld lent r)) ≡ a →
+          Answers out t (onAnswer out t a (printRecord (lentHeld lent r)) (after (t .sofar .before) r))
+      by (Took q) e = line-answers (printRecord (lentHeld lent r)) (after (t .sofar .before) r)
+      by (Refused f) e = would-refuse (f .fault .number) (own f e)
 
   close-answers : Answers out t (closeBuffer out t)
   unfolding closeBuffer
   close-answers =
       either (t .closed) (λ a. would-refuse 24 (numbers.WriterNumber.ofRecord hopeless))
       (λ a. either (closes (t .sofar .last))
-      (λ b. either (leb (t .at + 1) (min (length out) 16384))
+      (λ b. either (leb (t .at + 1) (min (length out) fileMost))
       (λ d.
-      let m : t .at + 1 ≤ min (length out) 16384 = leb-true _ _ d in
+      let m : t .at + 1 ≤ min (length out) fileMost = leb-true _ _ d in
       record { wrote = λ z. put-only out (0x1a ∷ []) (t .at) (t .at + 1) refl (omega arith); refused = λ z. absurd (z refl) })
       (λ d. no-room))
       (λ b. would-refuse 32 (numbers.WriterNumber.ofRecord missing)))

@@ -18,7 +18,7 @@ use Rattle.schedule.specs.Schedule.{dateRun}
 use Rattle.date.specs.Date.{exists, isDate}
 use Rattle.date.specs.Print.{printDate}
 use Rattle.date.specs.declared.Date.{Date}
-use Rattle.row.specs.Row.{fieldsAt}
+use Rattle.line.specs.Fields.{fieldsAt}
 use Rattle.record_line.specs.Line.{refusal}
 use Rattle.record.specs.declared.Refusal.{Refusal}
 
@@ -112,33 +112,33 @@ pub data RecordNumber : ℕ → Type 0 where
   -- 25 "number of fields"
   count : RecordNumber 25
 
--- of a field,
-pub data FieldNumber : ℕ → Type 0 where
+-- of a field, with where in the field: 0 where there is no place to name,
+pub data FieldNumber : ℕ → ℕ → Type 0 where
   -- 28 "required field empty, or forbidden one filled"
-  need : FieldNumber 28
+  need : FieldNumber 28 0
   -- 26 "field with a byte maximum: badly formed, end space, too long"
-  text : FieldNumber 26
+  text : FieldNumber 26 0
   -- 27 "number, date, amount, site or drug code"
-  value : FieldNumber 27
+  value : FieldNumber 27 0
   -- 30 "RP number or serial not as ordered"
-  order : FieldNumber 30
+  order : FieldNumber 30 0
   -- 31 "this supplement, with those before it in its RP, begins no allowed list"
-  list : FieldNumber 31
+  list : FieldNumber 31 0
 
 -- and of a code in a field, by its bytes.
 abbrev pub CodeNumber : List ℕ → ℕ → ℕ → Type 0
 CodeNumber f n p = UsageNumber f n p ⊎ SupplementNumber f n p
 
--- A refusal at a field of the record at an offset, with a code's own number and place.
+-- A refusal at a field of the record at an offset, with a code's own number, and where in the field.
 abbrev pub atField : ℕ → ℕ → ℕ → ℕ → ℕ → Refusal
-atField number at field code place = record { number = number; at = at; field = field; code = code; place = place }
+atField number at field code place = record { fault = test.fault number place; at = at; field = field; code = code }
 
 -- What a reader tells of the line at an offset of the file s, whatever state it is handed. What it tells from opening on is said in `Refused`.
 pub data LineRefusal (s : List ℕ) (at : ℕ) : Refusal → Type 0 where
   -- 23, 24, 32, 25: record
   ofRecord : {n : ℕ} → RecordNumber n → LineRefusal s at (refusal n at)
   -- 28, 26, 27, 30, 31: record, field
-  ofField : {n k : ℕ} → 1 ≤ k → k < length (fieldsAt s at) → FieldNumber n → LineRefusal s at (atField n at k 0 0)
+  ofField : {n p k : ℕ} → 1 ≤ k → k < length (fieldsAt s at) → FieldNumber n p → LineRefusal s at (atField n at k 0 p)
   -- 29 "code refused; its own number and place follow": record, field
   ofCode : {n p k : ℕ} → 1 ≤ k → k < length (fieldsAt s at) → CodeNumber (getD (fieldsAt s at) k []) n p → LineRefusal s at (atField 29 at k n p)
 
@@ -148,5 +148,5 @@ pub data WriterNumber : ℕ → ℕ → Type 0 where
   room : WriterNumber 33 0
   -- 34 "record the reader would refuse here, fields taken as held; its number follows"
   ofRecord : {n : ℕ} → RecordNumber n → WriterNumber 34 n
-  ofField : {n : ℕ} → FieldNumber n → WriterNumber 34 n
+  ofField : {n p : ℕ} → FieldNumber n p → WriterNumber 34 n
   ofCode : WriterNumber 34 29

@@ -3,9 +3,10 @@
 -- Assumes nothing.
 use Prim.Native.Nat.{ℕ, zero, suc, _+_, _≤_, _<_}
 use mathlib.Core.Path.{_≡_}
-use mathlib.Core.Bool.{Bool, true, false}
+use mathlib.Core.Bool.{true, false}
 use mathlib.Core.List.{List, [], _∷_, map}
 use lib.ListN.{length, getD}
+use Rattle.cells.specs.Limits.{fileMost}
 use Rattle.cells.specs.Text.{bytes}
 use Rattle.cells.specs.Test as test
 use Rattle.line.specs.Frame.{WellFramed, Place}
@@ -14,17 +15,17 @@ use Rattle.usage.specs.Usage.{readUsage}
 use Rattle.supplement.specs.Supplement.{readSupplement}
 use Rattle.supplement.specs.declared.Supplement.{Supplement}
 use Rattle.order.specs.Order.{Sheet, Verdict}
-use Rattle.field.specs.Field.{free, usageCode, supplementCode, wrong}
+use Rattle.field.specs.Field.{Context, free, usageCode, supplementCode, wrong}
 use Rattle.field.specs.declared.Rule.{Rule}
-use Rattle.field.specs.declared.Sofar.{Sofar}
 use Rattle.row.specs.Table.{rules, counted}
-use Rattle.record.specs.Record.{start, after, supplements}
+use Rattle.record.specs.Record.{numberOf, start, after, supplements}
 use Rattle.record_line.specs.Line.{refusal, recordNumber}
+use Rattle.record.specs.declared.Sofar.{Sofar}
 use Rattle.record.specs.declared.Record.{Record}
 use Rattle.record.specs.declared.Refusal.{Refusal}
-use Rattle.reader.specs.File.{linesOf, numberOf}
+use Rattle.reader.specs.File.{linesOf, inList}
 use Rattle.demands.specs.Numbers.{FieldNumber, atField}
-use Rattle.demands.specs.Taken.{Passes, fieldTests, fieldsIn, joinsAfter}
+use Rattle.demands.specs.Taken.{Passes, fieldTests, fieldsIn}
 
 -- ---- the place
 -- Where the line after the first k begins, of lines that begin at an offset: each has its bytes, CR and LF.
@@ -45,7 +46,7 @@ lineAfter s k = getD (linesOf s) (suc k) []
 -- For the fields of a line,
 abbrev pub leaving : Sofar → List Record → Sofar
 leaving c [] = c
-leaving c (r ∷ rs) = leaving (after c r) rs
+leaving c (r ∷ rs) = leaving (after (c .before) r) rs
 
 -- and as the supplements of its RP.
 abbrev pub supplied : List Supplement → List Record → List Supplement
@@ -54,10 +55,10 @@ supplied xs (r ∷ rs) = supplied (supplements xs r) rs
 
 -- ---- a field
 -- "Field by field", from the jth on: the kth is f, with the rule r, and those before it pass every test.
-pub data Reaches (joins : Supplement → Bool) (c : Sofar) : ℕ → List Rule → List (List ℕ) → ℕ → Rule → List ℕ → Type 0 where
-  here : {j : ℕ} {r : Rule} {rs : List Rule} {f : List ℕ} {fs : List (List ℕ)} → Reaches joins c j (r ∷ rs) (f ∷ fs) j r f
+pub data Reaches (c : Context) : ℕ → List Rule → List (List ℕ) → ℕ → Rule → List ℕ → Type 0 where
+  here : {j : ℕ} {r : Rule} {rs : List Rule} {f : List ℕ} {fs : List (List ℕ)} → Reaches c j (r ∷ rs) (f ∷ fs) j r f
   next : {j k : ℕ} {q r : Rule} {rs : List Rule} {e f : List ℕ} {fs : List (List ℕ)} →
-      Passes (fieldTests joins c q e) → Reaches joins c (j + 1) rs fs k r f → Reaches joins c j (q ∷ rs) (e ∷ fs) k r f
+      Passes (fieldTests c q e) → Reaches c (j + 1) rs fs k r f → Reaches c j (q ∷ rs) (e ∷ fs) k r f
 
 -- "29 code refused; its own number and place follow": those of the code that the field's rule asks for.
 pub data CodeRefused (r : Rule) (f : List ℕ) : ℕ → ℕ → Type 0 where
@@ -74,7 +75,7 @@ numberOn l = recordNumber (split l)
 pub record AtField (before : List ℕ) (c : Sofar) (xs : List Supplement) (l : List ℕ) (k : ℕ) (r : Rule) (f : List ℕ) : Type 0 where
   pub stands : Verdict before (numberOn l) 0
   pub count : counted (numberOn l) (fieldsIn l) ≡ true
-  pub reaches : Reaches (joinsAfter c xs) c 1 (rules (numberOn l) (fieldsIn l)) (fieldsIn l) k r f
+  pub reaches : Reaches (inList (c .before) xs) 1 (rules (numberOn l) (fieldsIn l)) (fieldsIn l) k r f
 
 -- The line l at an offset is refused, after such records.
 pub data WrongLine (before : List ℕ) (c : Sofar) (xs : List Supplement) (at : ℕ) (l : List ℕ) : Refusal → Type 0 where
@@ -87,27 +88,27 @@ pub data WrongLine (before : List ℕ) (c : Sofar) (xs : List Supplement) (at : 
   -- 25 "number of fields": record
   count : Verdict before (numberOn l) 0 → counted (numberOn l) (fieldsIn l) ≡ false → WrongLine before c xs at l (refusal 25 at)
   -- 28, 26, 27, 30, 31: record, field
-  field : {n k : ℕ} {r : Rule} {f : List ℕ} → AtField before c xs l k r f → FieldNumber n → wrong (joinsAfter c xs) c r f ≡ n →
-      WrongLine before c xs at l (atField n at k 0 0)
+  field : {n p k : ℕ} {r : Rule} {f : List ℕ} → AtField before c xs l k r f → FieldNumber n p → wrong (inList (c .before) xs) r f ≡ test.fault n p →
+      WrongLine before c xs at l (atField n at k 0 p)
   -- 29 "code refused; its own number and place follow": record, field
-  code : {n p k : ℕ} {r : Rule} {f : List ℕ} → AtField before c xs l k r f → wrong (joinsAfter c xs) c r f ≡ 29 → CodeRefused r f n p →
+  code : {n p k : ℕ} {r : Rule} {f : List ℕ} → AtField before c xs l k r f → wrong (inList (c .before) xs) r f ≡ test.fault 29 p → CodeRefused r f n p →
       WrongLine before c xs at l (atField 29 at k n p)
 
 -- ---- the file
 -- "At most 16,384 bytes: version line `JAHIS5`": a file that passes 20, 21 and 22.
 pub record Opens (s : List ℕ) : Type 0 where
-  pub most : length s ≤ 16384
+  pub most : length s ≤ fileMost
   pub framed : WellFramed s
   pub version : getD (linesOf s) 0 [] ≡ bytes "JAHIS5"
 
 -- The refusals of a file s, where rs are the records that were handed out.
 pub data FileRefusal (s : List ℕ) (rs : List Record) : Refusal → Type 0 where
   -- 20 "file too long": 0
-  tooLong : 16384 < length s → FileRefusal s rs (refusal 20 0)
+  tooLong : fileMost < length s → FileRefusal s rs (refusal 20 0)
   -- 21 "first byte where no well framed file agrees, or the end": offset
-  frame : {at : ℕ} → length s ≤ 16384 → Place s at → FileRefusal s rs (refusal 21 at)
+  frame : {at : ℕ} → length s ≤ fileMost → Place s at → FileRefusal s rs (refusal 21 at)
   -- 22 "version line": 0
-  version : length s ≤ 16384 → WellFramed s → (getD (linesOf s) 0 [] ≡ bytes "JAHIS5" → ⊥) → FileRefusal s rs (refusal 22 0)
+  version : length s ≤ fileMost → WellFramed s → (getD (linesOf s) 0 [] ≡ bytes "JAHIS5" → ⊥) → FileRefusal s rs (refusal 22 0)
   -- 23, 24, 32, 25, and 28, 26, 27, 30, 31, 29: the line after those of the records
   line : {f : Refusal} → Opens s → length rs + 1 < length (linesOf s) →
       WrongLine (map numberOf rs) (leaving start rs) (supplied [] rs) (placeAfter s (length rs)) (lineAfter s (length rs)) f → FileRefusal s rs f

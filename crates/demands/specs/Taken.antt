@@ -2,9 +2,10 @@
 -- Assumes nothing.
 use Prim.Native.Nat.{ℕ, _+_, _%_, _≤_}
 use mathlib.Core.Path.{_≡_}
-use mathlib.Core.Bool.{Bool, true, cond}
+use mathlib.Core.Bool.{true, cond}
 use mathlib.Core.List.{List, [], _∷_, _++_, map}
 use lib.ListN.{length, getD, drop}
+use Rattle.cells.specs.Limits.{fileMost}
 use Rattle.cells.specs.Text.{bytes}
 use Rattle.cells.specs.Test.{Test, test, took}
 use Rattle.line.specs.Frame.{plainLines, file}
@@ -15,16 +16,16 @@ use Rattle.supplement.specs.Supplement as supplement
 use Rattle.supplement.specs.declared.Supplement.{Supplement}
 use Rattle.days.specs.Run.{codeOf, allowed, setOf, aMonth, answersIn}
 use Rattle.order.specs.Order.{Sheet}
-use Rattle.schedule.specs.Schedule.{dates, list}
-use Rattle.field.specs.Field.{isEmpty, present, filled}
+use Rattle.schedule.specs.Schedule.{dates}
+use Rattle.field.specs.Field.{Context, isEmpty, present, filled}
 use Rattle.field.specs.declared.Rule.{Rule}
-use Rattle.field.specs.declared.Sofar.{Sofar}
 use Rattle.row.specs.Table.{rules, counted}
-use Rattle.record.specs.Record.{start, after, supplements}
+use Rattle.record.specs.Record.{numberOf, start, after, supplements}
 use Rattle.record_line.specs.Fields.{recordOf}
 use Rattle.record_line.specs.Line.{recordNumber}
+use Rattle.record.specs.declared.Sofar.{Sofar}
 use Rattle.record.specs.declared.Record.{Record}
-use Rattle.reader.specs.File.{numberOf}
+use Rattle.reader.specs.File.{inList}
 
 -- ---- codes
 -- Every test is passed.
@@ -56,31 +57,28 @@ pub record TakenRun (issue : ℕ) (s cells : List ℕ) : Type 0 where
 
 -- ---- a line
 -- What a field is tested for, by its rule: "28", and where it is filled "26, 27, 30, 29, 31".
-abbrev pub fieldTests : (Supplement → Bool) → Sofar → Rule → List ℕ → List Test
-fieldTests joins c r f = test 28 0 (present r f) ∷ cond (isEmpty f) [] (filled joins c r f)
+abbrev pub fieldTests : Context → Rule → List ℕ → List Test
+fieldTests c r f = test 28 0 (present r f) ∷ cond (isEmpty f) [] (filled c r f)
 
 -- "Field by field": each passes every test.
-abbrev pub FieldsPass : (Supplement → Bool) → Sofar → List Rule → List (List ℕ) → Type 0
-FieldsPass joins c [] fs = Unit
-FieldsPass joins c (r ∷ rs) [] = Unit
-FieldsPass joins c (r ∷ rs) (f ∷ fs) = Passes (fieldTests joins c r f) × FieldsPass joins c rs fs
+abbrev pub FieldsPass : Context → List Rule → List (List ℕ) → Type 0
+FieldsPass c [] fs = Unit
+FieldsPass c (r ∷ rs) [] = Unit
+FieldsPass c (r ∷ rs) (f ∷ fs) = Passes (fieldTests c r f) × FieldsPass c rs fs
 
 -- The fields of a record number n, after what the records before leave: as many as the table says ("25"), and each passes.
-pub record RightFields (joins : Supplement → Bool) (c : Sofar) (n : ℕ) (fs : List (List ℕ)) : Type 0 where
+pub record RightFields (c : Context) (n : ℕ) (fs : List (List ℕ)) : Type 0 where
   pub count : counted n fs ≡ true
-  pub pass : FieldsPass joins c (rules n fs) fs
+  pub pass : FieldsPass c (rules n fs) fs
 
 -- The fields of a line, "after the record number".
 abbrev pub fieldsIn : List ℕ → List (List ℕ)
 fieldsIn l = drop 1 (split l)
 
--- "In an RP, kind 8 records hold one I, W or C, or one date run for the month of record 51": after the supplements xs of its RP, one more begins such a list.
-abbrev pub joinsAfter : Sofar → List Supplement → Supplement → Bool
-joinsAfter c xs x = list (c .month) (xs ++ (x ∷ []))
-
--- The line at an offset is right, and says the record r. `xs` are the supplements before it in its RP.
+-- The line at an offset is right, and says the record r. `xs` are the supplements before it in its RP: "in an RP, kind 8 records hold one I, W or C, or
+-- one date run for the month of record 51".
 pub record RightLine (c : Sofar) (xs : List Supplement) (at : ℕ) (l : List ℕ) (r : Record) : Type 0 where
-  pub fields : RightFields (joinsAfter c xs) c (recordNumber (split l)) (fieldsIn l)
+  pub fields : RightFields (inList (c .before) xs) (recordNumber (split l)) (fieldsIn l)
   pub is : recordOf (recordNumber (split l)) (at + length (getD (split l) 0 []) + 1) (fieldsIn l) ≡ r
 
 -- Lines, one after the other, each after what the records before it leave.
@@ -88,13 +86,13 @@ abbrev pub RightLines : ℕ → Sofar → List Supplement → List (List ℕ) �
 RightLines at c xs [] [] = Unit
 RightLines at c xs [] (r ∷ rs) = ⊥
 RightLines at c xs (l ∷ ls) [] = ⊥
-RightLines at c xs (l ∷ ls) (r ∷ rs) = RightLine c xs at l r × RightLines (at + length l + 2) (after c r) (supplements xs r) ls rs
+RightLines at c xs (l ∷ ls) (r ∷ rs) = RightLine c xs at l r × RightLines (at + length l + 2) (after (c .before) r) (supplements xs r) ls rs
 
 -- ---- the file
 -- "At most 16,384 bytes: version line `JAHIS5`, records, each ended by CR LF, then one byte 1Ah. Other bytes below 20h, and 7Fh, never stand."
 -- The records' numbers are a sheet, and each line is right and says its record.
 pub record TakenFile (s : List ℕ) (rs : List Record) : Type 0 where
-  pub most : length s ≤ 16384
+  pub most : length s ≤ fileMost
   pub lines : List (List ℕ)
   pub plain : plainLines lines ≡ true
   pub made : s ≡ file (bytes "JAHIS5" ∷ lines)
