@@ -1,6 +1,11 @@
 // The public operations for C and Rust, on numbers and bytes. include/yawsimbel.h has the layout of each array. A refusal leaves every lent
 // array as it was, but for the one that says where and why. A static library has the calls of one crate: these hand on to `code_calls`,
 // `sheet_calls` and `writer_calls`.
+use plain::SUPPLEMENT;
+use plain::USAGE;
+use plain_record::RECORD;
+use told::REFUSAL;
+use told::STATE;
 ghost use Rattle.cells.specs.Writing.{Writes};
 ghost use Rattle.usage.specs.Usage.{readUsage};
 ghost use Rattle.usage.specs.declared.Instruction.{Instruction};
@@ -23,7 +28,7 @@ ghost use Rattle.writer_calls.specs.Calls.{OpensBuffer, Puts};
 
 // Reads a usage code.
 #[no_mangle]
-pub extern "C" fn yws_usage_read(code: &[u8], numbers: &mut [u64; 25], place: &mut u64) -> u16
+pub extern "C" fn yws_usage_read(code: &[u8], numbers: &mut [u64; USAGE], place: &mut u64) -> u16
     ensures { λ r. ⌜ Reads Instruction usageNumbers (readUsage (now (code .entry))) (now (numbers .entry)) r (now (place .exit)) (now (numbers .exit)) ⌝ }
 {
     code_calls::usage_read(code, numbers, place)
@@ -31,7 +36,7 @@ pub extern "C" fn yws_usage_read(code: &[u8], numbers: &mut [u64; 25], place: &m
 
 // Writes a usage code.
 #[no_mangle]
-pub extern "C" fn yws_usage_write(numbers: &[u64; 25], code: &mut [u8; 16]) -> u16
+pub extern "C" fn yws_usage_write(numbers: &[u64; USAGE], code: &mut [u8; 16]) -> u16
     ensures { λ r. ⌜ Writes Instruction readUsage (now (code .entry)) (instructionOf (now (numbers .entry))) r (now (code .exit)) ⌝ }
 {
     code_calls::usage_write(numbers, code)
@@ -41,7 +46,11 @@ pub extern "C" fn yws_usage_write(numbers: &[u64; 25], code: &mut [u8; 16]) -> u
 
 // Reads a supplementary code.
 #[no_mangle]
-pub extern "C" fn yws_supplement_read(code: &[u8], numbers: &mut [u64; 22], place: &mut u64) -> u16
+pub extern "C" fn yws_supplement_read(
+    code: &[u8],
+    numbers: &mut [u64; SUPPLEMENT],
+    place: &mut u64,
+) -> u16
     ensures { λ r. ⌜ Reads Supplement supplementNumbers (readSupplement (now (code .entry))) (now (numbers .entry)) r (now (place .exit)) (now (numbers .exit)) ⌝ }
 {
     code_calls::supplement_read(code, numbers, place)
@@ -49,7 +58,7 @@ pub extern "C" fn yws_supplement_read(code: &[u8], numbers: &mut [u64; 22], plac
 
 // Writes a supplementary code.
 #[no_mangle]
-pub extern "C" fn yws_supplement_write(numbers: &[u64; 22], code: &mut [u8; 8]) -> u16
+pub extern "C" fn yws_supplement_write(numbers: &[u64; SUPPLEMENT], code: &mut [u8; 8]) -> u16
     ensures { λ r. ⌜ Writes Supplement readSupplement (now (code .entry)) (supplementOf (now (numbers .entry))) r (now (code .exit)) ⌝ }
 {
     code_calls::supplement_write(numbers, code)
@@ -82,7 +91,11 @@ pub extern "C" fn yws_set_write(issue: u8, days: &[u32; 13], out: &mut [u8], cou
 
 // Checks a sheet.
 #[no_mangle]
-pub extern "C" fn yws_sheet_check(file: &[u8], records: &mut u64, refusal: &mut [u64; 4]) -> u16
+pub extern "C" fn yws_sheet_check(
+    file: &[u8],
+    records: &mut u64,
+    refusal: &mut [u64; REFUSAL],
+) -> u16
     ensures { λ r. ⌜ Checks (checkFile (now (file .entry))) (now (records .entry)) r (now (refusal .exit)) (now (records .exit)) ⌝ }
 {
     sheet_calls::check(file, records, refusal)
@@ -90,7 +103,7 @@ pub extern "C" fn yws_sheet_check(file: &[u8], records: &mut u64, refusal: &mut 
 
 // Opens a sheet to read.
 #[no_mangle]
-pub extern "C" fn yws_sheet_open(file: &[u8], state: &mut [u64; 11]) -> u16
+pub extern "C" fn yws_sheet_open(file: &[u8], state: &mut [u64; STATE]) -> u16
     ensures { λ r. ⌜ Opens (openFile (now (file .entry))) r (now (state .exit)) ⌝ }
 {
     sheet_calls::open(file, state)
@@ -100,9 +113,9 @@ pub extern "C" fn yws_sheet_open(file: &[u8], state: &mut [u64; 11]) -> u16
 #[no_mangle]
 pub extern "C" fn yws_sheet_next(
     file: &[u8],
-    state: &mut [u64; 11],
-    numbers: &mut [u64; 31],
-    refusal: &mut [u64; 4],
+    state: &mut [u64; STATE],
+    numbers: &mut [u64; RECORD],
+    refusal: &mut [u64; REFUSAL],
 ) -> u16
     ensures { λ r. ⌜ Steps (nextRecord (now (file .entry)) (readerOf (now (state .entry)))) (now (state .entry)) (now (numbers .entry)) r (now (refusal .exit)) (now (state .exit)) (now (numbers .exit)) ⌝ }
 {
@@ -113,7 +126,7 @@ pub extern "C" fn yws_sheet_next(
 
 // Opens a buffer to write a sheet.
 #[no_mangle]
-pub extern "C" fn yws_writer_open(out: &mut [u8], state: &mut [u64; 11]) -> u16
+pub extern "C" fn yws_writer_open(out: &mut [u8], state: &mut [u64; STATE]) -> u16
     ensures { λ r. ⌜ OpensBuffer (openBuffer (now (out .entry))) (now (state .entry)) r (now (out .exit)) (now (state .exit)) ⌝ }
 {
     writer_calls::open(out, state)
@@ -123,8 +136,8 @@ pub extern "C" fn yws_writer_open(out: &mut [u8], state: &mut [u64; 11]) -> u16
 #[no_mangle]
 pub extern "C" fn yws_writer_put(
     out: &mut [u8],
-    state: &mut [u64; 11],
-    numbers: &[u64; 31],
+    state: &mut [u64; STATE],
+    numbers: &[u64; RECORD],
     lent: &[u8],
     own: &mut u64,
 ) -> u16
@@ -135,7 +148,7 @@ pub extern "C" fn yws_writer_put(
 
 // Writes the end.
 #[no_mangle]
-pub extern "C" fn yws_writer_close(out: &mut [u8], state: &mut [u64; 11], own: &mut u64) -> u16
+pub extern "C" fn yws_writer_close(out: &mut [u8], state: &mut [u64; STATE], own: &mut u64) -> u16
     ensures { λ r. ⌜ Puts (closeBuffer (now (out .entry)) (writerOf (now (state .entry)))) (now (state .entry)) r (now (own .exit)) (now (out .exit)) (now (state .exit)) ⌝ }
 {
     writer_calls::close(out, state, own)

@@ -4,6 +4,8 @@ use date::Date;
 use date::Made;
 use days::DaySet;
 use days_writer::Wrote;
+use plain::SUPPLEMENT;
+use plain::USAGE;
 ghost use mathlib.Core.Path.{_≡_};
 ghost use Rattle.cells.specs.Writing.{Writes};
 ghost use Rattle.usage.specs.Usage.{readUsage};
@@ -20,13 +22,13 @@ ghost use Rattle.code_calls.specs.Calls.{Reads, ReadsRun, TellsSet, Make
 // ---- usage codes
 
 // Reads a usage code.
-pub fn usage_read(code: &[u8], numbers: &mut [u64; 25], place: &mut u64) -> u16
+pub fn usage_read(code: &[u8], numbers: &mut [u64; USAGE], place: &mut u64) -> u16
     ensures { λ r. ⌜ Reads Instruction usageNumbers (readUsage (now (code .entry))) (now (numbers .entry)) r (now (place .exit)) (now (numbers .exit)) ⌝ }
 {
     match usage::read(code) {
         usage::Reading::Taken(i) => {
             *place = 0;
-            *numbers = plain::usage_numbers(i);
+            plain::put_usage(i, numbers);
             0
         }
         usage::Reading::Refused(f) => {
@@ -37,7 +39,7 @@ pub fn usage_read(code: &[u8], numbers: &mut [u64; 25], place: &mut u64) -> u16
 }
 
 // Writes a usage code.
-pub fn usage_write(numbers: &[u64; 25], code: &mut [u8; 16]) -> u16
+pub fn usage_write(numbers: &[u64; USAGE], code: &mut [u8; 16]) -> u16
     ensures { λ r. ⌜ Writes Instruction readUsage (now (code .entry)) (instructionOf (now (numbers .entry))) r (now (code .exit)) ⌝ }
 {
     let i = plain::instruction(numbers);
@@ -52,13 +54,13 @@ pub fn usage_write(numbers: &[u64; 25], code: &mut [u8; 16]) -> u16
 // ---- supplementary codes
 
 // Reads a supplementary code.
-pub fn supplement_read(code: &[u8], numbers: &mut [u64; 22], place: &mut u64) -> u16
+pub fn supplement_read(code: &[u8], numbers: &mut [u64; SUPPLEMENT], place: &mut u64) -> u16
     ensures { λ r. ⌜ Reads Supplement supplementNumbers (readSupplement (now (code .entry))) (now (numbers .entry)) r (now (place .exit)) (now (numbers .exit)) ⌝ }
 {
     match supplement::read(code) {
         supplement::Reading::Taken(x) => {
             *place = 0;
-            *numbers = plain::supplement_numbers(x);
+            plain::put_supplement(x, numbers);
             0
         }
         supplement::Reading::Refused(f) => {
@@ -69,7 +71,7 @@ pub fn supplement_read(code: &[u8], numbers: &mut [u64; 22], place: &mut u64) ->
 }
 
 // Writes a supplementary code.
-pub fn supplement_write(numbers: &[u64; 22], code: &mut [u8; 8]) -> u16
+pub fn supplement_write(numbers: &[u64; SUPPLEMENT], code: &mut [u8; 8]) -> u16
     ensures { λ r. ⌜ Writes Supplement readSupplement (now (code .entry)) (supplementOf (now (numbers .entry))) r (now (code .exit)) ⌝ }
 {
     let x = plain::supplement(numbers);
@@ -146,7 +148,7 @@ fn made_number(m: Made) -> u16
 {
     match m {
         Made::Day(_) => 0,
-        Made::None => 27,
+        Made::None(f) => f.number,
     }
 }
 
@@ -155,7 +157,7 @@ fn made_numbers(m: Made, before: [u64; 4]) -> [u64; 4]
 {
     match m {
         Made::Day(t) => [t.era as u64, t.year as u64, t.month as u64, t.day as u64],
-        Made::None => before,
+        Made::None(_) => before,
     }
 }
 
@@ -167,7 +169,7 @@ fn made_text(m: Made, before: [u8; 8]) -> [u8; 8]
             let text = date::print(t);
             text.bytes
         }
-        Made::None => before,
+        Made::None(_) => before,
     }
 }
 

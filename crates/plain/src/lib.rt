@@ -8,8 +8,15 @@ use usage::Instruction;
 use usage::Occasions;
 ghost use mathlib.Core.Path.{_≡_};
 ghost use lib.ListN.{getD};
+ghost use lib.Seq.{sets};
 ghost use Rattle.plain.specs.Held.{byte as byteOf, half as halfOf, word as wordOf, flag as flagOf};
-ghost use Rattle.plain.specs.Codes.{usageNumbers, occasionsOf, hoursOf, eventOf, instructionOf, supplementNumbers, weekOf, daysOf, supplementOf};
+ghost use Rattle.plain.specs.Codes.{occasionsNumbers, eventNumbers, hoursNumbers, usageNumbers, occasionsOf, eventOf, hoursOf, instructionOf, weekNumbers, daysNumbers, supplementNumbers, weekOf, daysOf, supplementOf};
+
+// How many numbers a usage code has.
+pub const USAGE: usize = 29;
+
+// How many a supplementary code has.
+pub const SUPPLEMENT: usize = 22;
 
 // ---- one number
 
@@ -72,19 +79,6 @@ pub fn flag_at(n: &[u64], i: usize) -> bool
     at(n, i) != 0
 }
 
-// A byte and thirty-two bits as themselves.
-fn wide(n: u8) -> u64
-    ensures { λ r. ⌜ r ≡ n ⌝ }
-{
-    n as u64
-}
-
-fn wide_word(n: u32) -> u64
-    ensures { λ r. ⌜ r ≡ n ⌝ }
-{
-    n as u64
-}
-
 // ---- codes
 
 fn occasions(n: &[u64]) -> Occasions
@@ -100,34 +94,34 @@ fn occasions(n: &[u64]) -> Occasions
     }
 }
 
-fn hours(n: &[u64]) -> Hours
-    ensures { λ r. ⌜ r ≡ hoursOf (now (n .entry)) ⌝ }
-{
-    Hours {
-        h1: byte_at(n, 11),
-        h2: byte_at(n, 12),
-        h3: byte_at(n, 13),
-        h4: byte_at(n, 14),
-        h5: byte_at(n, 15),
-        h6: byte_at(n, 16),
-        h7: byte_at(n, 17),
-        h8: byte_at(n, 18),
-    }
-}
-
 fn event(n: &[u64]) -> Event
     ensures { λ r. ⌜ r ≡ eventOf (now (n .entry)) ⌝ }
 {
     Event {
-        group: byte_at(n, 19),
-        event: byte_at(n, 20),
-        condition: byte_at(n, 21),
-        interval: byte_at(n, 22),
-        limit: byte_at(n, 23),
+        group: byte_at(n, 11),
+        event: byte_at(n, 12),
+        condition: byte_at(n, 13),
+        interval: byte_at(n, 14),
+        limit: byte_at(n, 15),
     }
 }
 
-// The instruction of twenty-five numbers.
+fn hours(n: &[u64]) -> Hours
+    ensures { λ r. ⌜ r ≡ hoursOf (now (n .entry)) ⌝ }
+{
+    Hours {
+        h1: byte_at(n, 17),
+        h2: byte_at(n, 18),
+        h3: byte_at(n, 19),
+        h4: byte_at(n, 20),
+        h5: byte_at(n, 21),
+        h6: byte_at(n, 22),
+        h7: byte_at(n, 23),
+        h8: byte_at(n, 24),
+    }
+}
+
+// The instruction of a usage code's numbers.
 pub fn instruction(n: &[u64]) -> Instruction
     ensures { λ r. ⌜ r ≡ instructionOf (now (n .entry)) ⌝ }
 {
@@ -140,44 +134,58 @@ pub fn instruction(n: &[u64]) -> Instruction
         start: byte_at(n, 10),
         hours: hours(n),
         event: event(n),
-        about: byte_at(n, 24),
+        about: byte_at(n, 16),
     }
 }
 
-// Its numbers.
-pub fn usage_numbers(i: Instruction) -> [u64; 25]
-    ensures { λ r. ⌜ r ≡ usageNumbers i ⌝ }
+fn put_occasions(o: Occasions, n: &mut [u64; USAGE])
+    ensures { λ _. ⌜ now (n .exit) ≡ sets (now (n .entry)) 4 (occasionsNumbers o) ⌝ }
 {
-    let o = i.occasions;
-    let h = i.hours;
-    let e = i.event;
-    [
-        i.class as u64,
-        i.detail as u64,
-        i.kind as u64,
-        i.times as u64,
-        o.bedtime as u64,
-        o.supper as u64,
-        o.lunch as u64,
-        o.breakfast as u64,
-        o.waking as u64,
-        o.hour as u64,
-        i.start as u64,
-        h.h1 as u64,
-        h.h2 as u64,
-        h.h3 as u64,
-        h.h4 as u64,
-        h.h5 as u64,
-        h.h6 as u64,
-        h.h7 as u64,
-        h.h8 as u64,
-        e.group as u64,
-        e.event as u64,
-        e.condition as u64,
-        e.interval as u64,
-        e.limit as u64,
-        i.about as u64,
-    ]
+    n[4] = o.bedtime as u64;
+    n[5] = o.supper as u64;
+    n[6] = o.lunch as u64;
+    n[7] = o.breakfast as u64;
+    n[8] = o.waking as u64;
+    n[9] = o.hour as u64;
+}
+
+fn put_event(e: Event, n: &mut [u64; USAGE])
+    ensures { λ _. ⌜ now (n .exit) ≡ sets (now (n .entry)) 11 (eventNumbers e) ⌝ }
+{
+    n[11] = e.group as u64;
+    n[12] = e.event as u64;
+    n[13] = e.condition as u64;
+    n[14] = e.interval as u64;
+    n[15] = e.limit as u64;
+}
+
+fn put_hours(h: Hours, n: &mut [u64; USAGE])
+    ensures { λ _. ⌜ now (n .exit) ≡ sets (now (n .entry)) 17 (hoursNumbers h) ⌝ }
+{
+    n[17] = h.h1 as u64;
+    n[18] = h.h2 as u64;
+    n[19] = h.h3 as u64;
+    n[20] = h.h4 as u64;
+    n[21] = h.h5 as u64;
+    n[22] = h.h6 as u64;
+    n[23] = h.h7 as u64;
+    n[24] = h.h8 as u64;
+}
+
+// Its numbers, in the caller's array.
+pub fn put_usage(i: Instruction, n: &mut [u64; USAGE])
+    ensures { λ _. ⌜ now (n .exit) ≡ usageNumbers i ⌝ }
+{
+    *n = [0; USAGE];
+    n[0] = i.class as u64;
+    n[1] = i.detail as u64;
+    n[2] = i.kind as u64;
+    n[3] = i.times as u64;
+    n[10] = i.start as u64;
+    n[16] = i.about as u64;
+    put_occasions(i.occasions, n);
+    put_event(i.event, n);
+    put_hours(i.hours, n);
 }
 
 fn week(n: &[u64]) -> Week
@@ -207,7 +215,7 @@ fn days(n: &[u64]) -> Days
     }
 }
 
-// The supplementary code's record of twenty-two numbers.
+// What a supplementary code's numbers say.
 pub fn supplement(n: &[u64]) -> Supplement
     ensures { λ r. ⌜ r ≡ supplementOf (now (n .entry)) ⌝ }
 {
@@ -226,34 +234,43 @@ pub fn supplement(n: &[u64]) -> Supplement
     }
 }
 
-// Its numbers.
-pub fn supplement_numbers(x: Supplement) -> [u64; 22]
-    ensures { λ r. ⌜ r ≡ supplementNumbers x ⌝ }
+fn put_week(w: Week, n: &mut [u64; SUPPLEMENT])
+    ensures { λ _. ⌜ now (n .exit) ≡ sets (now (n .entry)) 3 (weekNumbers w) ⌝ }
 {
-    let w = x.week;
-    let d = x.days;
-    [
-        x.letter as u64,
-        x.on as u64,
-        x.off as u64,
-        w.sunday as u64,
-        w.monday as u64,
-        w.tuesday as u64,
-        w.wednesday as u64,
-        w.thursday as u64,
-        w.friday as u64,
-        w.saturday as u64,
-        x.month as u64,
-        d.d1 as u64,
-        d.d2 as u64,
-        d.d3 as u64,
-        d.d4 as u64,
-        d.d5 as u64,
-        d.d6 as u64,
-        x.period as u64,
-        x.count as u64,
-        wide(x.order),
-        wide_word(x.figures),
-        wide(x.places),
-    ]
+    n[3] = w.sunday as u64;
+    n[4] = w.monday as u64;
+    n[5] = w.tuesday as u64;
+    n[6] = w.wednesday as u64;
+    n[7] = w.thursday as u64;
+    n[8] = w.friday as u64;
+    n[9] = w.saturday as u64;
+}
+
+fn put_days(d: Days, n: &mut [u64; SUPPLEMENT])
+    ensures { λ _. ⌜ now (n .exit) ≡ sets (now (n .entry)) 11 (daysNumbers d) ⌝ }
+{
+    n[11] = d.d1 as u64;
+    n[12] = d.d2 as u64;
+    n[13] = d.d3 as u64;
+    n[14] = d.d4 as u64;
+    n[15] = d.d5 as u64;
+    n[16] = d.d6 as u64;
+}
+
+// Its numbers, in the caller's array.
+pub fn put_supplement(x: Supplement, n: &mut [u64; SUPPLEMENT])
+    ensures { λ _. ⌜ now (n .exit) ≡ supplementNumbers x ⌝ }
+{
+    *n = [0; SUPPLEMENT];
+    n[0] = x.letter as u64;
+    n[1] = x.on as u64;
+    n[2] = x.off as u64;
+    n[10] = x.month as u64;
+    n[17] = x.period as u64;
+    n[18] = x.count as u64;
+    n[19] = x.order as u64;
+    n[20] = x.figures as u64;
+    n[21] = x.places as u64;
+    put_week(x.week, n);
+    put_days(x.days, n);
 }

@@ -1,2 +1,3 @@
-pub mod Lists
+pub mod Along
+pub mod Front
 pub mod Laws

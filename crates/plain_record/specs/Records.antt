@@ -1,13 +1,14 @@
--- Records as thirty-one numbers: the record's number, then its fields in the order of document 01's table, then 0s. A number is itself, a text
+-- Records as numbers: the record's own, then its fields in the order of document 01's table, but the code last, then 0s. A number is itself, a text
 -- its place in the file (from, to), a code its numbers, a date its era (0 in western style), year, month and day.
 -- Assumes nothing.
-use Prim.Native.Nat.{ℕ, _-_}
+use Prim.Native.Nat.{ℕ}
 use mathlib.Core.Bool.{cond}
 use mathlib.Core.List.{List, [], _∷_, _++_}
 use lib.Dec.{eqb}
-use lib.ListN.{length, getD, drop, replicate}
+use lib.ListN.{getD, drop}
 use Rattle.usage.specs.declared.Instruction.{Instruction}
 use Rattle.supplement.specs.declared.Supplement.{Supplement}
+use Rattle.record.specs.Record.{numberOf, Column, number, optional, amount, text, day, usage, supplement, columns}
 use Rattle.record.specs.declared.Place.{Place}
 use Rattle.record.specs.declared.UsageCode.{UsageCode}
 use Rattle.record.specs.declared.UsageCode.the-variants.{Is as usageIs, Empty as noUsage}
@@ -21,58 +22,52 @@ use Rattle.record.specs.declared.Record201.{Record201}
 use Rattle.record.specs.declared.Kept.{Kept as KeptFields}
 use Rattle.record.specs.declared.Record.{Record}
 use Rattle.record.specs.declared.Record.the-variants.{Issue, Rp, Usage, Supplement as Supply, Drug, Kept}
-use Rattle.plain.specs.Held.{byte, half}
+use Rattle.plain.specs.Held.{byte, half, filled}
 use Rattle.plain.specs.Codes.{usageNumbers, instructionOf, supplementNumbers, supplementOf}
 
--- Numbers, and 0s after them up to a length.
-abbrev pub filled : ℕ → List ℕ → List ℕ
-filled most s = s ++ replicate (most - length s) 0
+-- How many numbers a record has. A code stands last in it, so that a code of more numbers moves nothing.
+abbrev pub recordWidth : ℕ
+recordWidth = 40
 
--- A code that is empty is 0s: a code's first number is never 0.
+-- A code that is empty has no numbers: 0s stand in its place, and no code's first number is 0.
 abbrev pub usageCode : UsageCode → List ℕ
 usageCode (usageIs i) = usageNumbers i
-usageCode noUsage = filled 25 []
+usageCode noUsage = []
 
 -- The same of a supplementary code.
 abbrev pub supplementCode : SupplementCode → List ℕ
 supplementCode (supplementIs x) = supplementNumbers x
-supplementCode noSupplement = filled 22 []
+supplementCode noSupplement = []
 
--- 51
-abbrev pub numbers51 : Record51 → List ℕ
-numbers51 x = filled 31 (51 ∷ x .date .era ∷ x .date .year ∷ x .date .month ∷ x .date .day ∷ [])
+-- What columns are as numbers, but for codes: a number is itself, a text its place in the file (from, to), a date its era, year, month and day.
+abbrev pub plainIn : List Column → List ℕ
+plainIn [] = []
+plainIn (number n ∷ cs) = n ∷ plainIn cs
+plainIn (optional n ∷ cs) = n ∷ plainIn cs
+plainIn (amount n ∷ cs) = n ∷ plainIn cs
+plainIn (text p ∷ cs) = p .from ∷ p .to ∷ plainIn cs
+plainIn (day t ∷ cs) = t .era ∷ t .year ∷ t .month ∷ t .day ∷ plainIn cs
+plainIn (usage k ∷ cs) = plainIn cs
+plainIn (supplement k ∷ cs) = plainIn cs
 
--- 101
-abbrev pub numbers101 : Record101 → List ℕ
-numbers101 x = filled 31 (101 ∷ x .rp .0 ∷ x .form ∷ x .name .from ∷ x .name .to ∷ x .quantity ∷ [])
+-- The code among them, of which a record has one or none.
+abbrev pub codeIn : List Column → List ℕ
+codeIn [] = []
+codeIn (number n ∷ cs) = codeIn cs
+codeIn (optional n ∷ cs) = codeIn cs
+codeIn (amount n ∷ cs) = codeIn cs
+codeIn (text p ∷ cs) = codeIn cs
+codeIn (day t ∷ cs) = codeIn cs
+codeIn (usage k ∷ cs) = usageCode k
+codeIn (supplement k ∷ cs) = supplementCode k
 
--- 111
-abbrev pub numbers111 : Record111 → List ℕ
-numbers111 x = 111 ∷ x .rp .0 ∷ x .kind ∷ usageCode (x .code) ++ (x .name .from ∷ x .name .to ∷ x .times ∷ [])
+-- A record's number, its columns, its code,
+abbrev pub numbersOf : Record → List ℕ
+numbersOf r = numberOf r ∷ plainIn (columns r) ++ codeIn (columns r)
 
--- 181
-abbrev pub numbers181 : Record181 → List ℕ
-numbers181 x =
-    181 ∷ x .rp .0 ∷ x .serial .0 ∷ x .kind ∷ x .text .from ∷ x .text .to ∷ supplementCode (x .code) ++ (x .site .from ∷ x .site .to ∷ 0 ∷ [])
-
--- 201
-abbrev pub numbers201 : Record201 → List ℕ
-numbers201 x =
-    filled 31
-    (201 ∷ x .rp .0 ∷ x .serial .0 ∷ x .kind ∷ x .coding ∷ x .code .from ∷ x .code .to ∷ x .name .from ∷ x .name .to ∷ x .amount ∷ x .flag ∷ x .unit .from ∷ x .unit .to ∷ [])
-
--- Any other record: the place of its fields.
-abbrev pub numbersKept : KeptFields → List ℕ
-numbersKept x = filled 31 (x .number ∷ x .fields .from ∷ x .fields .to ∷ [])
-
--- By the record.
+-- and 0s after them.
 abbrev pub recordNumbers : Record → List ℕ
-recordNumbers (Issue x) = numbers51 x
-recordNumbers (Rp x) = numbers101 x
-recordNumbers (Usage x) = numbers111 x
-recordNumbers (Supply x) = numbers181 x
-recordNumbers (Drug x) = numbers201 x
-recordNumbers (Kept x) = numbersKept x
+recordNumbers r = filled recordWidth (numbersOf r)
 
 -- Back: a code whose first number is 0 is empty.
 unfoldable pub usageBy : ℕ → Instruction → UsageCode
@@ -104,11 +99,11 @@ record101 n = record { rp = record { 0 = half (getD n 1 0) }; form = half (getD 
 
 -- 111
 abbrev pub record111 : List ℕ → Record111
-record111 n = record { rp = record { 0 = half (getD n 1 0) }; kind = half (getD n 2 0); code = usageCodeOf (drop 3 n); name = placeAt n 28 29; times = half (getD n 30 0) }
+record111 n = record { rp = record { 0 = half (getD n 1 0) }; kind = half (getD n 2 0); code = usageCodeOf (drop 6 n); name = placeAt n 3 4; times = half (getD n 5 0) }
 
 -- 181
 abbrev pub record181 : List ℕ → Record181
-record181 n = record { rp = record { 0 = half (getD n 1 0) }; serial = record { 0 = half (getD n 2 0) }; kind = half (getD n 3 0); text = placeAt n 4 5; code = supplementCodeOf (drop 6 n); site = placeAt n 28 29 }
+record181 n = record { rp = record { 0 = half (getD n 1 0) }; serial = record { 0 = half (getD n 2 0) }; kind = half (getD n 3 0); text = placeAt n 4 5; code = supplementCodeOf (drop 8 n); site = placeAt n 6 7 }
 
 -- 201
 abbrev pub record201 : List ℕ → Record201
@@ -120,11 +115,11 @@ keptOf n = record { number = half (getD n 0 0); fields = placeAt n 1 2 }
 
 -- By the record's number.
 unfoldable pub recordBy : ℕ → List ℕ → Record
-recordBy number n =
-    cond (eqb number 51) (Issue (record51 n))
-    (cond (eqb number 101) (Rp (record101 n))
-    (cond (eqb number 111) (Usage (record111 n))
-    (cond (eqb number 181) (Supply (record181 n)) (cond (eqb number 201) (Drug (record201 n)) (Kept (keptOf n))))))
+recordBy m n =
+    cond (eqb m 51) (Issue (record51 n))
+    (cond (eqb m 101) (Rp (record101 n))
+    (cond (eqb m 111) (Usage (record111 n))
+    (cond (eqb m 181) (Supply (record181 n)) (cond (eqb m 201) (Drug (record201 n)) (Kept (keptOf n))))))
 
 -- What any numbers are held as.
 abbrev pub recordOf : List ℕ → Record

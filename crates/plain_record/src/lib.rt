@@ -3,6 +3,8 @@ use counter::DrugSerial;
 use counter::RpNumber;
 use counter::SupplementSerial;
 use date::Date;
+use plain::SUPPLEMENT;
+use plain::USAGE;
 use record::Kept;
 use record::Place;
 use record::Record;
@@ -16,8 +18,19 @@ use record::UsageCode;
 use supplement::Supplement;
 use usage::Instruction;
 ghost use mathlib.Core.Path.{_≡_};
-ghost use lib.ListN.{drop};
-ghost use Rattle.plain_record.specs.Records.{usageCode, supplementCode, usageBy, usageCodeOf, supplementBy, supplementCodeOf, numbers51, numbers101, numbers111, numbers181, numbers201, numbersKept, recordNumbers, placeAt, record51, record101, record111, record181, record201, keptOf, recordBy, recordOf};
+ghost use Prim.Native.Nat.{_+_, _-_, _≤_};
+ghost use lib.ListN.{length, drop, replicate};
+ghost use lib.Seq.{sets};
+ghost use Rattle.record.specs.declared.Record.the-variants.{Issue, Rp, Usage, Supplement as Supply, Drug, Kept as KeptRecord};
+ghost use Rattle.plain_record.specs.Records.{usageBy, usageCodeOf, supplementBy, supplementCodeOf, numbersOf, recordNumbers, placeAt, record51, record101, record111, record181, record201, keptOf, recordBy, recordOf};
+ghost use Rattle.plain_record.specs.Code.Front.{withFront};
+
+// How many numbers a record has.
+pub const RECORD: usize = 40;
+
+// As many as the longest record has that has no code. What stands after them is cleared before the record is known, they themselves where it is:
+// so the compiler writes every 0 in place; all forty at once would be a call for each record.
+const FRONT: usize = 13;
 
 fn place_at(n: &[u64], from: usize, to: usize) -> Place
     ensures { λ r. ⌜ r ≡ placeAt (now (n .entry)) from to ⌝ }
@@ -28,279 +41,132 @@ fn place_at(n: &[u64], from: usize, to: usize) -> Place
     }
 }
 
-fn usage_code(code: UsageCode) -> [u64; 25]
-    ensures { λ r. ⌜ r ≡ usageCode code ⌝ }
+// Clears the numbers from a place up to another.
+fn clear(n: &mut [u64], from: usize, to: usize)
+    requires { ⌜ (from ≤ to) × (to ≤ length (now n)) ⌝ }
+    ensures { λ _. ⌜ now (n .exit) ≡ sets (now (n .entry)) from (replicate (to - from) 0) ⌝ }
 {
-    match code {
-        UsageCode::Is(i) => plain::usage_numbers(i),
-        UsageCode::Empty => [0; 25],
+    let mut i = from;
+    while i < to {
+        n[i] = 0;
+        i += 1;
     }
 }
 
-fn supplement_code(code: SupplementCode) -> [u64; 22]
-    ensures { λ r. ⌜ r ≡ supplementCode code ⌝ }
+// Puts numbers, as those of a code, from a place on.
+fn put(n: &mut [u64], at: usize, s: &[u64])
+    requires { ⌜ at + length (now s) ≤ length (now n) ⌝ }
+    ensures { λ _. ⌜ now (n .exit) ≡ sets (now (n .entry)) at (now (s .entry)) ⌝ }
 {
-    match code {
-        SupplementCode::Is(x) => plain::supplement_numbers(x),
-        SupplementCode::Empty => [0; 22],
+    let mut i: usize = 0;
+    while i < s.len() {
+        n[at + i] = s[i];
+        i += 1;
     }
 }
 
-fn numbers_51(x: Record51) -> [u64; 31]
-    ensures { λ r. ⌜ r ≡ numbers51 x ⌝ }
+fn put_51(x: Record51, n: &mut [u64; RECORD])
+    ensures { λ _. ⌜ now (n .exit) ≡ withFront (numbersOf (Issue x)) (now (n .entry)) ⌝ }
 {
-    [
-        51,
-        x.date.era as u64,
-        x.date.year as u64,
-        x.date.month as u64,
-        x.date.day as u64,
-        0,
-        0,
-        0,
-        0,
-        0,
-        0,
-        0,
-        0,
-        0,
-        0,
-        0,
-        0,
-        0,
-        0,
-        0,
-        0,
-        0,
-        0,
-        0,
-        0,
-        0,
-        0,
-        0,
-        0,
-        0,
-        0,
-    ]
+    n[0] = 51;
+    n[1] = x.date.era as u64;
+    n[2] = x.date.year as u64;
+    n[3] = x.date.month as u64;
+    n[4] = x.date.day as u64;
+    clear(n, 5, FRONT);
 }
 
-fn numbers_101(x: Record101) -> [u64; 31]
-    ensures { λ r. ⌜ r ≡ numbers101 x ⌝ }
+fn put_101(x: Record101, n: &mut [u64; RECORD])
+    ensures { λ _. ⌜ now (n .exit) ≡ withFront (numbersOf (Rp x)) (now (n .entry)) ⌝ }
 {
-    [
-        101,
-        x.rp.0 as u64,
-        x.form as u64,
-        x.name.from as u64,
-        x.name.to as u64,
-        x.quantity as u64,
-        0,
-        0,
-        0,
-        0,
-        0,
-        0,
-        0,
-        0,
-        0,
-        0,
-        0,
-        0,
-        0,
-        0,
-        0,
-        0,
-        0,
-        0,
-        0,
-        0,
-        0,
-        0,
-        0,
-        0,
-        0,
-    ]
+    n[0] = 101;
+    n[1] = x.rp.0 as u64;
+    n[2] = x.form as u64;
+    n[3] = x.name.from as u64;
+    n[4] = x.name.to as u64;
+    n[5] = x.quantity as u64;
+    clear(n, 6, FRONT);
 }
 
-fn numbers_111(x: Record111) -> [u64; 31]
-    ensures { λ r. ⌜ r ≡ numbers111 x ⌝ }
+fn put_111(x: Record111, n: &mut [u64; RECORD])
+    ensures { λ _. ⌜ now (n .exit) ≡ withFront (numbersOf (Usage x)) (now (n .entry)) ⌝ }
 {
+    n[0] = 111;
+    n[1] = x.rp.0 as u64;
+    n[2] = x.kind as u64;
+    n[3] = x.name.from as u64;
+    n[4] = x.name.to as u64;
+    n[5] = x.times as u64;
     let code = x.code;
-    let c = usage_code(code);
-    [
-        111,
-        x.rp.0 as u64,
-        x.kind as u64,
-        c[0],
-        c[1],
-        c[2],
-        c[3],
-        c[4],
-        c[5],
-        c[6],
-        c[7],
-        c[8],
-        c[9],
-        c[10],
-        c[11],
-        c[12],
-        c[13],
-        c[14],
-        c[15],
-        c[16],
-        c[17],
-        c[18],
-        c[19],
-        c[20],
-        c[21],
-        c[22],
-        c[23],
-        c[24],
-        x.name.from as u64,
-        x.name.to as u64,
-        x.times as u64,
-    ]
+    if let UsageCode::Is(i) = code {
+        let mut c = [0; USAGE];
+        plain::put_usage(i, &mut c);
+        put(n, 6, &c);
+    } else {
+        clear(n, 6, FRONT);
+    }
 }
 
-fn numbers_181(x: Record181) -> [u64; 31]
-    ensures { λ r. ⌜ r ≡ numbers181 x ⌝ }
+fn put_181(x: Record181, n: &mut [u64; RECORD])
+    ensures { λ _. ⌜ now (n .exit) ≡ withFront (numbersOf (Supply x)) (now (n .entry)) ⌝ }
 {
+    n[0] = 181;
+    n[1] = x.rp.0 as u64;
+    n[2] = x.serial.0 as u64;
+    n[3] = x.kind as u64;
+    n[4] = x.text.from as u64;
+    n[5] = x.text.to as u64;
+    n[6] = x.site.from as u64;
+    n[7] = x.site.to as u64;
     let code = x.code;
-    let c = supplement_code(code);
-    [
-        181,
-        x.rp.0 as u64,
-        x.serial.0 as u64,
-        x.kind as u64,
-        x.text.from as u64,
-        x.text.to as u64,
-        c[0],
-        c[1],
-        c[2],
-        c[3],
-        c[4],
-        c[5],
-        c[6],
-        c[7],
-        c[8],
-        c[9],
-        c[10],
-        c[11],
-        c[12],
-        c[13],
-        c[14],
-        c[15],
-        c[16],
-        c[17],
-        c[18],
-        c[19],
-        c[20],
-        c[21],
-        x.site.from as u64,
-        x.site.to as u64,
-        0,
-    ]
+    if let SupplementCode::Is(s) = code {
+        let mut c = [0; SUPPLEMENT];
+        plain::put_supplement(s, &mut c);
+        put(n, 8, &c);
+    } else {
+        clear(n, 8, FRONT);
+    }
 }
 
-fn numbers_201(x: Record201) -> [u64; 31]
-    ensures { λ r. ⌜ r ≡ numbers201 x ⌝ }
+fn put_201(x: Record201, n: &mut [u64; RECORD])
+    ensures { λ _. ⌜ now (n .exit) ≡ withFront (numbersOf (Drug x)) (now (n .entry)) ⌝ }
 {
-    [
-        201,
-        x.rp.0 as u64,
-        x.serial.0 as u64,
-        x.kind as u64,
-        x.coding as u64,
-        x.code.from as u64,
-        x.code.to as u64,
-        x.name.from as u64,
-        x.name.to as u64,
-        x.amount,
-        x.flag as u64,
-        x.unit.from as u64,
-        x.unit.to as u64,
-        0,
-        0,
-        0,
-        0,
-        0,
-        0,
-        0,
-        0,
-        0,
-        0,
-        0,
-        0,
-        0,
-        0,
-        0,
-        0,
-        0,
-        0,
-    ]
+    n[0] = 201;
+    n[1] = x.rp.0 as u64;
+    n[2] = x.serial.0 as u64;
+    n[3] = x.kind as u64;
+    n[4] = x.coding as u64;
+    n[5] = x.code.from as u64;
+    n[6] = x.code.to as u64;
+    n[7] = x.name.from as u64;
+    n[8] = x.name.to as u64;
+    n[9] = x.amount;
+    n[10] = x.flag as u64;
+    n[11] = x.unit.from as u64;
+    n[12] = x.unit.to as u64;
 }
 
-fn numbers_kept(x: Kept) -> [u64; 31]
-    ensures { λ r. ⌜ r ≡ numbersKept x ⌝ }
+fn put_kept(x: Kept, n: &mut [u64; RECORD])
+    ensures { λ _. ⌜ now (n .exit) ≡ withFront (numbersOf (KeptRecord x)) (now (n .entry)) ⌝ }
 {
-    [
-        x.number as u64,
-        x.fields.from as u64,
-        x.fields.to as u64,
-        0,
-        0,
-        0,
-        0,
-        0,
-        0,
-        0,
-        0,
-        0,
-        0,
-        0,
-        0,
-        0,
-        0,
-        0,
-        0,
-        0,
-        0,
-        0,
-        0,
-        0,
-        0,
-        0,
-        0,
-        0,
-        0,
-        0,
-        0,
-    ]
+    n[0] = x.number as u64;
+    n[1] = x.fields.from as u64;
+    n[2] = x.fields.to as u64;
+    clear(n, 3, FRONT);
 }
 
-// A record's number, then its fields in the order of document 01's table, then 0s, in the caller's array.
-pub fn record_numbers(r: Record, n: &mut [u64; 31])
+// A record's numbers, in the caller's array: its own number, then its fields, its code last, then 0s.
+pub fn put_record(r: Record, n: &mut [u64; RECORD])
     ensures { λ _. ⌜ now (n .exit) ≡ recordNumbers r ⌝ }
 {
+    clear(n, FRONT, RECORD);
     match r {
-        Record::Issue(x) => {
-            *n = numbers_51(x);
-        }
-        Record::Rp(x) => {
-            *n = numbers_101(x);
-        }
-        Record::Usage(x) => {
-            *n = numbers_111(x);
-        }
-        Record::Supplement(x) => {
-            *n = numbers_181(x);
-        }
-        Record::Drug(x) => {
-            *n = numbers_201(x);
-        }
-        Record::Kept(x) => {
-            *n = numbers_kept(x);
-        }
+        Record::Issue(x) => put_51(x, n),
+        Record::Rp(x) => put_101(x, n),
+        Record::Usage(x) => put_111(x, n),
+        Record::Supplement(x) => put_181(x, n),
+        Record::Drug(x) => put_201(x, n),
+        Record::Kept(x) => put_kept(x, n),
     }
 }
 
@@ -375,9 +241,9 @@ fn record_111(n: &[u64]) -> Record111
     Record111 {
         rp: RpNumber(plain::half_at(n, 1)),
         kind: plain::half_at(n, 2),
-        code: usage_code_of(from(n, 3)),
-        name: place_at(n, 28, 29),
-        times: plain::half_at(n, 30),
+        code: usage_code_of(from(n, 6)),
+        name: place_at(n, 3, 4),
+        times: plain::half_at(n, 5),
     }
 }
 
@@ -389,8 +255,8 @@ fn record_181(n: &[u64]) -> Record181
         serial: SupplementSerial(plain::half_at(n, 2)),
         kind: plain::half_at(n, 3),
         text: place_at(n, 4, 5),
-        code: supplement_code_of(from(n, 6)),
-        site: place_at(n, 28, 29),
+        code: supplement_code_of(from(n, 8)),
+        site: place_at(n, 6, 7),
     }
 }
 
@@ -440,7 +306,7 @@ fn record_by(number: u64, n: &[u64]) -> Record
     Record::Kept(kept_of(n))
 }
 
-// The record of thirty-one numbers.
+// The record of a record's numbers.
 pub fn record(n: &[u64]) -> Record
     ensures { λ r. ⌜ r ≡ recordOf (now (n .entry)) ⌝ }
 {

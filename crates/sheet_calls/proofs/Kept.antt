@@ -5,11 +5,20 @@ use mathlib.Core.Path.{_≡_, ap, sym}
 use mathlib.Core.List.{List}
 use Rattle.record.specs.declared.Record.{Record}
 use Rattle.record.specs.declared.Refusal.{Refusal}
-use Rattle.reader.specs.Said.{Next, Hands, Refuses, End, Turn}
+use Rattle.reader.specs.Said.{Next, Hands, Refuses, End, Turn, Check, Records, Not}
 use Rattle.plain_record.specs.Records.{recordNumbers}
 use Rattle.told.specs.States.{readerNumbers, readerOf}
-use Rattle.told.specs.Answers.{refusalNumbers, noRefusal, handedState}
-use Rattle.sheet_calls.specs.Calls.{Steps}
+use Rattle.told.specs.Answers.{refusedNumber, refusalNumbers, noRefusal, handedState}
+use Rattle.sheet_calls.specs.Calls.{Checks, Steps}
+
+-- Checking a sheet: one that is taken is told as the number of its records,
+module _ (x : Check) (before : ℕ) where
+  pub checks-on : (n : ℕ) → x ≡ Records n → Checks x before 0 noRefusal n
+  checks-on n h = record { returns = rw h; refuses = rw h; leaves = rw h }
+
+  -- and a refusal leaves the count as it was.
+  pub checks-refused : (f : Refusal) → x ≡ Not f → (n : ℕ) (told : List ℕ) → (n ≡ refusedNumber f) × (told ≡ refusalNumbers f) → Checks x before n told before
+  checks-refused f h n told e = record { returns = rw h (e .0); refuses = rw h (e .1); leaves = rw h }
 
 -- One call of the reader, by what it hands out: a record and the state after it,
 module _ (x : Turn) (state₀ numbers₀ : List ℕ) where
@@ -23,9 +32,9 @@ module _ (x : Turn) (state₀ numbers₀ : List ℕ) where
   stays h = sym (ap (λ (b : Next). handedState b (readerNumbers (x .state)) state₀) h)
 
   -- a refusal, which leaves both arrays as they were,
-  pub steps-refused : (f : Refusal) → x .next ≡ Refuses f → (told : List ℕ) → told ≡ refusalNumbers f → readerOf state₀ ≡ x .state →
-      Steps x state₀ numbers₀ (f .number) told state₀ numbers₀
-  steps-refused f h told e z = record { returns = rw h; refuses = rw h e; moves = stays h; leaves = rw h; holds = z }
+  pub steps-refused : (f : Refusal) → x .next ≡ Refuses f → (n : ℕ) (told : List ℕ) → (n ≡ refusedNumber f) × (told ≡ refusalNumbers f) →
+      readerOf state₀ ≡ x .state → Steps x state₀ numbers₀ n told state₀ numbers₀
+  steps-refused f h n told e z = record { returns = rw h (e .0); refuses = rw h (e .1); moves = stays h; leaves = rw h; holds = z }
 
   -- and so does the end.
   pub steps-end : x .next ≡ End → readerOf state₀ ≡ x .state → Steps x state₀ numbers₀ 65535 noRefusal state₀ numbers₀

@@ -23,7 +23,7 @@ pub record-again : (s state₀ numbers₀ refusal state numbers : List ℕ) (t :
 record-again s state₀ numbers₀ refusal state numbers t r n h w =
     ap recordOf (w .leaves ∙ ap (λ (x : Next). handedRecord x numbers₀) h) ∙ record-held s t r h
 
--- Of every file and every array of eleven numbers, also one that no call gave: 0, 65535 at the 1Ah, or one of document 01's numbers for a file.
+-- Of every file and every state, also one that no call gave: 0, 65535 at the 1Ah, or one of document 01's numbers for a file.
 pub always-a-number : (s state₀ numbers₀ refusal state numbers : List ℕ) (n : ℕ) → Steps (nextRecord s (readerOf state₀)) state₀ numbers₀ n refusal state numbers →
     Returned s state₀ n
 always-a-number s state₀ numbers₀ refusal state numbers n w = subst (Returned s state₀) (sym (w .returns)) (listed.always-a-number s state₀)

@@ -12,17 +12,16 @@ use Rattle.cells.specs.Test.{Answer, took, refused}
 use Rattle.cells.proofs.Split.{split}
 use Rattle.cells.proofs.Alike.{and-right}
 use Rattle.number.specs.Number.{figures, value, shortest, readNumber}
-use Rattle.date.specs.Date.{none as noDay, eraAdds, isDate, western, eraDate, held, readDate}
+use Rattle.date.specs.Date.{eraAdds, isDate, western, eraDate, held, readDate}
 use Rattle.date.specs.declared.Date.{Date}
 use Rattle.date.proofs.Style.{numbers, western-year, era-year}
 use Rattle.usage.specs.Usage.{readUsage}
 use Rattle.usage.specs.declared.Instruction.{Instruction}
 use Rattle.supplement.specs.Supplement.{readSupplement}
 use Rattle.supplement.specs.declared.Supplement.{Supplement}
-use Rattle.field.specs.Field.{rule, isTaken, numberOf, valued, wrong}
-use Rattle.field.specs.declared.Sofar.{Sofar}
+use Rattle.field.specs.Field.{Context, rule, isTaken, writtenNumber, valued, wrong}
 use Rattle.field.proofs.Laws.{passes}
-use Rattle.record_line.specs.Fields.{dateIn, usageIn, supplementIn}
+use Rattle.record.specs.Record.{dateIn, usageIn, supplementIn}
 use Rattle.record_line.specs.Line.{numberIn}
 use Rattle.plain.specs.Fits.{Within, none, more}
 use Rattle.plain_record.specs.Fits.{FitsUsageCode, FitsSupplementCode}
@@ -41,13 +40,13 @@ number-in lo hi f =
     chosen (λ (m : Answer ℕ). numberIn m ≤ hi) (shortest f && (leb lo (value 0 f) && leb (value 0 f) hi)) (in-range lo hi f) (λ e. zero-le)
 
 -- so is the number of a field that passes a rule of numbers, and that of an empty one is 0.
-pub number-most : (joins : Supplement → Bool) (c : Sofar) (need form lo hi : ℕ) →
+pub number-most : (c : Context) (need form lo hi : ℕ) →
     ((f : List ℕ) → valued (rule need form lo hi) f ≡ true → isTaken (readNumber lo hi f) ≡ true) →
-    (f : List ℕ) → wrong joins c (rule need form lo hi) f ≡ 0 → numberOf f ≤ hi
+    (f : List ℕ) → wrong c (rule need form lo hi) f .number ≡ 0 → writtenNumber f ≤ hi
 unfolding readNumber value
-number-most joins c need form lo hi is [] h = zero-le
-number-most joins c need form lo hi is (b ∷ f) h =
-    let k : isTaken (readNumber lo hi (b ∷ f)) ≡ true = is (b ∷ f) (passes joins c (rule need form lo hi) (b ∷ f) h refl .1) in
+number-most c need form lo hi is [] h = zero-le
+number-most c need form lo hi is (b ∷ f) h =
+    let k : isTaken (readNumber lo hi (b ∷ f)) ≡ true = is (b ∷ f) (passes c (rule need form lo hi) (b ∷ f) h refl .1) in
     split (shortest (b ∷ f) && (leb lo (value 0 (b ∷ f)) && leb (value 0 (b ∷ f)) hi)) (in-range lo hi (b ∷ f))
     (λ e. absurd (let n = simp e at k in let z : _≡_ {A = ℕ} 0 1 = cc in omega arith))
 
@@ -81,7 +80,7 @@ is-date-fits t h =
     (more (omega (arith, e .most)) (more m (more d none)), omega (arith, e .upto, adds-most (t .era))))
 
 -- and what stands for none is 0s
-no-date : FitsDate (dateIn noDay)
+no-date : FitsDate (dateIn (refused 27 0))
 no-date = (more zero-le (more zero-le (more zero-le none)), zero-le)
 
 abbrev OfMade : Answer Date → Type 0

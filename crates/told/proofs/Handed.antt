@@ -8,14 +8,14 @@ use mathlib.Core.List.{List, []}
 use borrow.Author.Tests.{eqb-true, eqb-false}
 use lib.Dec.{eqb}
 use lib.ListN.{length, getD, drop}
+use Rattle.line.specs.Fields.{nth}
 use Rattle.cells.proofs.Split.{split as cases}
 use Rattle.cells.proofs.Alike.{and-left}
 use Rattle.number.specs.Number.{readNumber}
-use Rattle.supplement.specs.declared.Supplement.{Supplement}
 use Rattle.order.specs.Next.{closes}
-use Rattle.field.specs.Field.{rule, required, free, isTaken, numberOf, valued, wrong}
-use Rattle.field.specs.declared.Sofar.{Sofar}
-use Rattle.row.specs.Table.{nth, typed, rules, rulesFrom}
+use Rattle.field.specs.Field.{Context, rule, required, free, isTaken, writtenNumber, valued, wrong}
+use Rattle.row.specs.Table.{typed, rules, rulesFrom}
+use Rattle.record.specs.Record.{recordFrom}
 use Rattle.record_line.specs.Fields.{recordOf}
 use Rattle.record_line.specs.Line.{recordNumber, readParts, lineAfter, lineAt}
 use Rattle.record.specs.declared.Record.{Record}
@@ -36,24 +36,24 @@ use Rattle.plain.proofs.Read.{either}
 use Rattle.told.proofs.Fields.{number-in, number-most, date-fits, usage-in, supplement-in}
 
 -- ---- by the record's number
-module _ (joins : Supplement → Bool) (c : Sofar) where
+module _ (last : ℕ) (c : Context) where
   -- a field that passes a rule of numbers: none of them allows more than 999
   small : (need form lo hi : ℕ) → hi ≤ 999 →
       ((f : List ℕ) → valued (rule need form lo hi) f ≡ true → isTaken (readNumber lo hi f) ≡ true) →
-      (f : List ℕ) → wrong joins c (rule need form lo hi) f ≡ 0 → numberOf f ≤ 65535
-  small need form lo hi l is f h = omega (arith, number-most joins c need form lo hi is f h)
+      (f : List ℕ) → wrong c (rule need form lo hi) f .number ≡ 0 → writtenNumber f ≤ 65535
+  small need form lo hi l is f h = omega (arith, number-most c need form lo hi is f h)
 
   module _ (at : ℕ) (fs : List (List ℕ)) where
     -- the record of a number and these fields fits: each number of the table,
     abbrev Fit : ℕ → Type 0
     Fit n = FitsRecord (recordOf n at fs)
 
-    fits51 : Fine joins c 51 fs → Fit 51
-    unfolding recordOf
+    fits51 : Fine c 51 fs → Fit 51
+    unfolding recordOf recordFrom
     fits51 w = let d = date-fits (nth 1 fs) in Fits.issue (d .0) (d .1)
 
-    fits101 : Fine joins c 101 fs → Fit 101
-    unfolding recordOf typed rules rulesFrom valued
+    fits101 : Fine c 101 fs → Fit 101
+    unfolding recordOf recordFrom typed rules rulesFrom valued
     fits101 w =
         let l : length fs ≡ 4 = w .count in
         Fits.rp
@@ -61,8 +61,8 @@ module _ (joins : Supplement → Bool) (c : Sofar) where
         (more (small required 7 1 99 (omega arith) (λ f v. v) (nth 2 fs) (w .passes 1 (omega arith)))
         (more (small required 7 1 999 (omega arith) (λ f v. v) (nth 4 fs) (w .passes 3 (omega arith))) none)))
 
-    fits111 : Fine joins c 111 fs → Fit 111
-    unfolding recordOf typed rules rulesFrom valued
+    fits111 : Fine c 111 fs → Fit 111
+    unfolding recordOf recordFrom typed rules rulesFrom valued
     fits111 w =
         let l : length fs ≡ 5 = w .count in
         Fits.usage
@@ -71,8 +71,8 @@ module _ (joins : Supplement → Bool) (c : Sofar) where
         (more (small free 7 1 99 (omega arith) (λ f v. v) (nth 5 fs) (w .passes 4 (omega arith))) none)))
         (usage-in (nth 3 fs))
 
-    fits181 : Fine joins c 181 fs → Fit 181
-    unfolding recordOf typed rules rulesFrom valued
+    fits181 : Fine c 181 fs → Fit 181
+    unfolding recordOf recordFrom typed rules rulesFrom valued
     fits181 w =
         let l : length fs ≡ 6 = w .count in
         Fits.supplement
@@ -81,8 +81,8 @@ module _ (joins : Supplement → Bool) (c : Sofar) where
         (more (small free 7 1 99 (omega arith) (λ f v. v) (nth 3 fs) (w .passes 2 (omega arith))) none)))
         (supplement-in (nth 5 fs))
 
-    fits201 : Fine joins c 201 fs → Fit 201
-    unfolding recordOf typed rules rulesFrom valued
+    fits201 : Fine c 201 fs → Fit 201
+    unfolding recordOf recordFrom typed rules rulesFrom valued
     fits201 w =
         let l : length fs ≡ 9 = w .count in
         Fits.drug
@@ -93,21 +93,21 @@ module _ (joins : Supplement → Bool) (c : Sofar) where
         (more (small required 7 1 2 (omega arith) (λ f v. v) (nth 8 fs) (w .passes 7 (omega arith))) none)))))
 
     -- a number that is one of them,
-    is : (n m : ℕ) → (Fine joins c m fs → Fit m) → Fine joins c n fs → eqb n m ≡ true → Fit n
+    is : (n m : ℕ) → (Fine c m fs → Fit m) → Fine c n fs → eqb n m ≡ true → Fit n
     is n m f w e =
         let q : n ≡ m = eqb-true n m e in
-        subst Fit (sym q) (f (subst (λ (k : ℕ). Fine joins c k fs) q w))
+        subst Fit (sym q) (f (subst (λ (k : ℕ). Fine c k fs) q w))
 
     -- one that is none of them, whose record is kept,
     fits-kept : (n : ℕ) → n ≤ 999 → eqb n 51 ≡ false → eqb n 101 ≡ false → eqb n 111 ≡ false → eqb n 181 ≡ false → eqb n 201 ≡ false → Fit n
-    unfolding recordOf
+    unfolding recordOf recordFrom
     fits-kept n l a b d e f =
         let m : n ≤ 65535 = omega arith in
         simp (a, b, d, e, f)
         (Fits.kept (more m none) (eqb-false n 51 a) (eqb-false n 101 b) (eqb-false n 111 d) (eqb-false n 181 e) (eqb-false n 201 f))
 
     -- every number
-    fits-all : (n : ℕ) → n ≤ 999 → Fine joins c n fs → FitsRecord (recordOf n at fs)
+    fits-all : (n : ℕ) → n ≤ 999 → Fine c n fs → FitsRecord (recordOf n at fs)
     fits-all n l w =
         cases (eqb n 51) (is n 51 fits51 w)
         (λ a. cases (eqb n 101) (is n 101 fits101 w)
@@ -117,12 +117,12 @@ module _ (joins : Supplement → Bool) (c : Sofar) where
 
   -- ---- a line that is taken
   -- its number is at most 999, and nothing is wrong with its fields
-  parts-fit : (at : ℕ) (parts : List (List ℕ)) (r : Record) → readParts joins c at parts ≡ Took r → FitsRecord r
+  parts-fit : (at : ℕ) (parts : List (List ℕ)) (r : Record) → readParts last c at parts ≡ Took r → FitsRecord r
   unfolding readParts
   parts-fit at parts r h =
       let n : ℕ = recordNumber parts in
       let from : ℕ = at + length (getD parts 0 []) + 1 in
-      let t = taken joins c at n from (drop 1 parts) r h in
+      let t = taken last c at n from (drop 1 parts) r h in
       subst FitsRecord (t .is) (fits-all from (drop 1 parts) n (number-in 1 999 (getD parts 0 [])) (t .fine))
 
 -- ---- one call
@@ -143,7 +143,7 @@ record-fits s t =
     let ended : Hold (record { next = End; state = t }) = λ r h. absurd (let z : _≡_ {A = ℕ} 0 1 = cc in omega arith) in
     either Hold (eqb (t .number) 0)
     (either Hold (endAt s (t .at)) (either Hold (closes (t .sofar .last)) ended (refused 32))
-    (line-holds t _ _ (parts-fit _ (t .sofar) (t .at) _)))
+    (line-holds t _ _ (parts-fit _ _ (t .at) _)))
     (refused (saidAgain (t .number)))
 
 -- a record that the reader hands out, laid out as numbers, is held as that record.

@@ -2,14 +2,19 @@
 use counter::DrugSerial;
 use counter::RpNumber;
 use counter::SupplementSerial;
-use field::Sofar;
-use reader::Checked;
+use field::Before;
 use record::Refusal;
+use record::Sofar;
 use schedule::Schedule;
 ghost use mathlib.Core.Path.{_≡_};
-ghost use Rattle.reader.specs.Said.{saidCheck};
-ghost use Rattle.told.specs.States.{scheduleOf, sofarOf, openOf, readerNumbers, readerOf};
-ghost use Rattle.told.specs.Answers.{refusalNumbers, checkedNumber, checkedRecords, checkedRefusal};
+ghost use Rattle.told.specs.States.{stateNumbers, scheduleOf, sofarOf, openOf, readerNumbers, readerOf};
+ghost use Rattle.told.specs.Answers.{refusedNumber, refusalNumbers};
+
+// How many numbers a state has.
+pub const STATE: usize = 16;
+
+// How many say where a sheet is refused.
+pub const REFUSAL: usize = 4;
 
 // ---- states
 
@@ -24,17 +29,19 @@ fn schedule_of(n: &[u64]) -> Schedule
     }
 }
 
-// What the records before leave, of the last nine of eleven numbers.
+// What the records before leave, of a state's numbers.
 pub fn sofar(n: &[u64]) -> Sofar
     ensures { λ r. ⌜ r ≡ sofarOf (now (n .entry)) ⌝ }
 {
     Sofar {
         last: plain::half_at(n, 2),
-        month: plain::byte_at(n, 3),
-        rp: RpNumber(plain::half_at(n, 4)),
-        drug: DrugSerial(plain::half_at(n, 5)),
-        supplement: SupplementSerial(plain::half_at(n, 6)),
-        schedule: schedule_of(n),
+        before: Before {
+            month: plain::byte_at(n, 3),
+            rp: RpNumber(plain::half_at(n, 4)),
+            drug: DrugSerial(plain::half_at(n, 5)),
+            supplement: SupplementSerial(plain::half_at(n, 6)),
+            schedule: schedule_of(n),
+        },
     }
 }
 
@@ -51,7 +58,7 @@ fn open_of(n: u64) -> u16
     65535
 }
 
-// A reader's state of eleven numbers.
+// A reader's state of its numbers.
 pub fn reader_state(n: &[u64]) -> reader::State
     ensures { λ r. ⌜ r ≡ readerOf (now (n .entry)) ⌝ }
 {
@@ -62,58 +69,44 @@ pub fn reader_state(n: &[u64]) -> reader::State
     }
 }
 
-// Its numbers, which are held as the state.
-pub fn reader_numbers(t: reader::State) -> [u64; 11]
-    ensures { λ r. ⌜ (r ≡ readerNumbers t) × (readerOf r ≡ t) ⌝ }
+// The numbers of a reader's or a writer's state, in the caller's array: where it is, whether it is open, and what the records before leave.
+pub fn put_state(at: u64, opened: u64, c: Sofar, n: &mut [u64; STATE])
+    ensures { λ _. ⌜ (now (n .exit) ≡ stateNumbers at opened c) × (sofarOf (now (n .exit)) ≡ c) ⌝ }
 {
-    let c = t.sofar;
-    let s = c.schedule;
-    [
-        t.at as u64,
-        t.number as u64 + 1,
-        c.last as u64,
-        c.month as u64,
-        c.rp.0 as u64,
-        c.drug.0 as u64,
-        c.supplement.0 as u64,
-        s.letter as u64,
-        s.month as u64,
-        s.last as u64,
-        s.full as u64,
-    ]
+    let b = c.before;
+    let s = b.schedule;
+    *n = [0; STATE];
+    n[0] = at;
+    n[1] = opened;
+    n[2] = c.last as u64;
+    n[3] = b.month as u64;
+    n[4] = b.rp.0 as u64;
+    n[5] = b.drug.0 as u64;
+    n[6] = b.supplement.0 as u64;
+    n[7] = s.letter as u64;
+    n[8] = s.month as u64;
+    n[9] = s.last as u64;
+    n[10] = s.full as u64;
+}
+
+// A reader's numbers, which are held as its state.
+pub fn put_reader(t: reader::State, n: &mut [u64; STATE])
+    ensures { λ _. ⌜ (now (n .exit) ≡ readerNumbers t) × (readerOf (now (n .exit)) ≡ t) ⌝ }
+{
+    put_state(t.at as u64, t.number as u64 + 1, t.sofar, n);
 }
 
 // ---- answers
 
-pub fn refusal_numbers(f: Refusal) -> [u64; 4]
-    ensures { λ r. ⌜ r ≡ refusalNumbers f ⌝ }
+// Where and why a sheet is refused: the number is handed back.
+pub fn put_refusal(f: Refusal, refusal: &mut [u64; REFUSAL]) -> u16
+    ensures { λ r. ⌜ (r ≡ refusedNumber f) × (now (refusal .exit) ≡ refusalNumbers f) ⌝ }
 {
-    [f.at as u64, f.field as u64, f.code as u64, f.place as u64]
-}
-
-pub fn checked_number(r: Checked) -> u16
-    ensures { λ n. ⌜ n ≡ checkedNumber (saidCheck r) ⌝ }
-{
-    match r {
-        Checked::Records(_) => 0,
-        Checked::Refused(f) => f.number,
-    }
-}
-
-pub fn checked_records(r: Checked, before: u64) -> u64
-    ensures { λ n. ⌜ n ≡ checkedRecords (saidCheck r) before ⌝ }
-{
-    match r {
-        Checked::Records(n) => n as u64,
-        Checked::Refused(_) => before,
-    }
-}
-
-pub fn checked_refusal(r: Checked) -> [u64; 4]
-    ensures { λ n. ⌜ n ≡ checkedRefusal (saidCheck r) ⌝ }
-{
-    match r {
-        Checked::Records(_) => [0; 4],
-        Checked::Refused(f) => refusal_numbers(f),
-    }
+    *refusal = [
+        f.at as u64,
+        f.field as u64,
+        f.code as u64,
+        f.fault.place as u64,
+    ];
+    f.fault.number
 }

@@ -12,16 +12,16 @@ read-requires c κs = search needs
 enum-known-x : tie.Need-enum-known-x
 enum-known-x c = search needs
 
-supplement-numbers-requires : tie.Need-supplement-numbers-requires
-supplement-numbers-requires c κs = search needs
+put-supplement-requires : tie.Need-put-supplement-requires
+put-supplement-requires c κs = search needs
 
 enum-known-f : tie.Need-enum-known-f
 enum-known-f c = search needs
 
 returns : tie.Need-returns
 returns c =
-    let r = c .before .before .before .before .read in
-    reads-taken _ (sym (r .ensures) ∙ ap said (c .before .before .x .given .1)) (c .supplement-numbers .ensures)
+    let r = c .before .before .before .before .before .read in
+    reads-taken _ (sym (r .ensures) ∙ ap said (c .before .before .before .x .given .1)) (c .put-supplement .ensures)
 
 returns-2 : tie.Need-returns-2
 returns-2 c =
@@ -31,4 +31,4 @@ returns-2 c =
 pub supplement-read-spec : {M : Type 1} → statement M
 supplement-read-spec =
     tie.close
-    (tie.spec read-requires enum-known-x supplement-numbers-requires enum-known-f returns returns-2)
+    (tie.spec read-requires enum-known-x put-supplement-requires enum-known-f returns returns-2)

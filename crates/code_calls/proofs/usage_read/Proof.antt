@@ -12,16 +12,16 @@ read-requires c κs = search needs
 enum-known-i : tie.Need-enum-known-i
 enum-known-i c = search needs
 
-usage-numbers-requires : tie.Need-usage-numbers-requires
-usage-numbers-requires c κs = search needs
+put-usage-requires : tie.Need-put-usage-requires
+put-usage-requires c κs = search needs
 
 enum-known-f : tie.Need-enum-known-f
 enum-known-f c = search needs
 
 returns : tie.Need-returns
 returns c =
-    let r = c .before .before .before .before .read in
-    reads-taken _ (sym (r .ensures) ∙ ap said (c .before .before .i .given .1)) (c .usage-numbers .ensures)
+    let r = c .before .before .before .before .before .read in
+    reads-taken _ (sym (r .ensures) ∙ ap said (c .before .before .before .i .given .1)) (c .put-usage .ensures)
 
 returns-2 : tie.Need-returns-2
 returns-2 c =
@@ -31,4 +31,4 @@ returns-2 c =
 pub usage-read-spec : {M : Type 1} → statement M
 usage-read-spec =
     tie.close
-    (tie.spec read-requires enum-known-i usage-numbers-requires enum-known-f returns returns-2)
+    (tie.spec read-requires enum-known-i put-usage-requires enum-known-f returns returns-2)

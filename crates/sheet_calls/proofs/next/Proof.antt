@@ -18,17 +18,17 @@ next-requires c κs = search needs
 enum-known-handed : tie.Need-enum-known-handed
 enum-known-handed c = search needs
 
-reader-numbers-requires : tie.Need-reader-numbers-requires
-reader-numbers-requires c κs = search needs
+put-reader-requires : tie.Need-put-reader-requires
+put-reader-requires c κs = search needs
 
-record-numbers-requires : tie.Need-record-numbers-requires
-record-numbers-requires c κs = search needs
+put-record-requires : tie.Need-put-record-requires
+put-record-requires c κs = search needs
 
 enum-known-handed-2 : tie.Need-enum-known-handed-2
 enum-known-handed-2 c = search needs
 
-refusal-numbers-requires : tie.Need-refusal-numbers-requires
-refusal-numbers-requires c κs = search needs
+put-refusal-requires : tie.Need-put-refusal-requires
+put-refusal-requires c κs = search needs
 
 enum-told : tie.Need-enum-told
 enum-told c = search needs
@@ -38,23 +38,23 @@ returns c =
     let a = c .before .before .before .before .before .before .before .before .before .before .before .before .before .args in
     let e : said (c .before .before .before .before .before .before .before .before .next .result) ≡ nextRecord (a .file .now) (readerOf (a .state .now)) =
     c .before .before .before .before .before .before .before .before .next .ensures ∙ (λ i. nextRecord (a .file .now) (c .before .before .before .before .before .before .before .before .before .reader-state .ensures i)) in
-    let h = ap (λ (x : Turn). x .next) (sym e) ∙ ap saidNext (c .before .before .before .before .before .handed .given .1) in
-    let n = c .before .before .before .reader-numbers .ensures in
-    steps-on _ (a .state .now) (a .numbers .now) _ h _ _ (n .0 ∙ ap (λ (x : Turn). readerNumbers (x .state)) e, n .1 ∙ ap (λ (x : Turn). x .state) e) (c .before .record-numbers .ensures)
+    let h = ap (λ (x : Turn). x .next) (sym e) ∙ ap saidNext (c .before .before .before .before .before .before .handed .given .1) in
+    let n = c .before .before .before .put-reader .ensures in
+    steps-on _ (a .state .now) (a .numbers .now) _ h _ _ (n .0 ∙ ap (λ (x : Turn). readerNumbers (x .state)) e, n .1 ∙ ap (λ (x : Turn). x .state) e) (c .before .put-record .ensures)
 
 returns-2 : tie.Need-returns-2
 returns-2 c =
     let a = c .before .before .before .before .before .before .before .before .before .before .args in
     let e : said (c .before .before .before .before .before .next .result) ≡ nextRecord (a .file .now) (readerOf (a .state .now)) =
     c .before .before .before .before .before .next .ensures ∙ (λ i. nextRecord (a .file .now) (c .before .before .before .before .before .before .reader-state .ensures i)) in
-    let h = ap (λ (x : Turn). x .next) (sym e) ∙ ap saidNext (c .before .before .handed2 .given .1) in
-    steps-refused _ (a .state .now) (a .numbers .now) _ h _ (c .refusal-numbers .ensures) (sym (again-refused (a .file .now) (readerOf (a .state .now)) _ h))
+    let h = ap (λ (x : Turn). x .next) (sym e) ∙ ap saidNext (c .before .before .before .handed2 .given .1) in
+    steps-refused _ (a .state .now) (a .numbers .now) _ h _ _ (c .put-refusal .ensures) (sym (again-refused (a .file .now) (readerOf (a .state .now)) _ h))
 
 returns-3 : tie.Need-returns-3
 returns-3 c =
-    let a = c .before .before .before .before .before .before .before .before .before .args in
-    let e : said (c .before .before .before .before .next .result) ≡ nextRecord (a .file .now) (readerOf (a .state .now)) =
-    c .before .before .before .before .next .ensures ∙ (λ i. nextRecord (a .file .now) (c .before .before .before .before .before .reader-state .ensures i)) in
+    let a = c .before .before .before .before .before .before .before .before .args in
+    let e : said (c .before .before .before .next .result) ≡ nextRecord (a .file .now) (readerOf (a .state .now)) =
+    c .before .before .before .next .ensures ∙ (λ i. nextRecord (a .file .now) (c .before .before .before .before .reader-state .ensures i)) in
     let h = ap (λ (x : Turn). x .next) (sym e) ∙ ap saidNext (c .before .enum-told .given .1) in
     steps-end _ (a .state .now) (a .numbers .now) h (sym (again-end (a .file .now) (readerOf (a .state .now)) h))
 
@@ -65,10 +65,10 @@ next-spec =
     reader-state-requires
     next-requires
     enum-known-handed
-    reader-numbers-requires
-    record-numbers-requires
+    put-reader-requires
+    put-record-requires
     enum-known-handed-2
-    refusal-numbers-requires
+    put-refusal-requires
     enum-told
     returns
     returns-2

@@ -8,17 +8,17 @@ use Rattle.sheet_calls.proofs.open.Tie as tie
 open-requires : tie.Need-open-requires
 open-requires c κs = search needs
 
-reader-numbers-requires : tie.Need-reader-numbers-requires
-reader-numbers-requires c κs = search needs
+put-reader-requires : tie.Need-put-reader-requires
+put-reader-requires c κs = search needs
 
 returns : tie.Need-returns
 returns c =
-    let o = c .before .«open» in
+    let o = c .before .before .«open» in
     record {
       returns = λ i. o .ensures i .number;
-      leaves = c .reader-numbers .ensures .0 ∙ (λ i. readerNumbers (o .ensures i));
-      holds = c .reader-numbers .ensures .1 ∙ o .ensures;
+      leaves = c .put-reader .ensures .0 ∙ (λ i. readerNumbers (o .ensures i));
+      holds = c .put-reader .ensures .1 ∙ o .ensures;
     }
 
 pub open-spec : {M : Type 1} → statement M
-open-spec = tie.close (tie.spec open-requires reader-numbers-requires returns)
+open-spec = tie.close (tie.spec open-requires put-reader-requires returns)

@@ -26,11 +26,14 @@ returns c =
     λ i.
     record {
       last = c .before .before .before .before .before .half-at .ensures i;
-      month = c .before .before .before .before .byte-at .ensures i;
-      rp = record { 0 = c .before .before .before .half-at2 .ensures i };
-      drug = record { 0 = c .before .before .half-at3 .ensures i };
-      supplement = record { 0 = c .before .half-at4 .ensures i };
-      schedule = c .schedule-of .ensures i;
+      before =
+          record {
+            month = c .before .before .before .before .byte-at .ensures i;
+            rp = record { 0 = c .before .before .before .half-at2 .ensures i };
+            drug = record { 0 = c .before .before .half-at3 .ensures i };
+            supplement = record { 0 = c .before .half-at4 .ensures i };
+            schedule = c .schedule-of .ensures i;
+          };
     }
 
 pub sofar-spec : {M : Type 1} → statement M
