@@ -45,7 +45,7 @@ int main(void) {
     while (yws_sheet_next(file, length, state, record, refusal) == 0) {
         if (record[0] == 111) {
             printf("RP %" PRIu64 ": ", record[1]);
-            text(record + 28);
+            text(record + 3);
             printf("\n");
         }
         if (record[0] == 201) {

@@ -16,10 +16,13 @@
  * STATES. A reader's or a writer's state is the caller's, to keep or to copy. Begin it with zeros, which are a state that was never opened.
  * state[0] is where it is. state[1] is 1 while it is open; 21, 22 or 23 for a reader whose opening returned 20, 21 or 22; any other number says
  * that nothing is open: yws_sheet_next then returns YWS_ORDER, with state[0] in refusal[0], and yws_writer_put and yws_writer_close
- * YWS_RECORD_REFUSED, with YWS_ORDER in *own. The other nine numbers are what the records before leave.
+ * YWS_RECORD_REFUSED, with YWS_ORDER in *own. state[2] to state[10] are what the records before leave; the others are left over.
  *
  * NUMBERS HANDED IN may be anything; none is undefined behaviour. One that is too large for what it stands for makes a record or a code
  * that is refused.
+ *
+ * NUMBERS LEFT OVER in a usage code, a record or a state are room for what is still to come: 0 where a function writes them, not looked at where
+ * they are handed in.
  *
  * A sheet is checked so:
  *
@@ -50,12 +53,12 @@ extern "C" {
 #endif
 
 /* Lengths of the arrays. */
-#define YWS_USAGE 25       /* numbers of a usage code */
+#define YWS_USAGE 29       /* numbers of a usage code */
 #define YWS_SUPPLEMENT 22  /* numbers of a supplementary code */
 #define YWS_DAYS 13        /* masks of a set of days */
 #define YWS_DATE 4         /* numbers of a date */
-#define YWS_RECORD 31      /* numbers of a record */
-#define YWS_STATE 11       /* numbers of a reader's or a writer's state */
+#define YWS_RECORD 40      /* numbers of a record */
+#define YWS_STATE 16       /* numbers of a reader's or a writer's state */
 #define YWS_REFUSAL 4      /* numbers of a sheet's refusal */
 #define YWS_FILE_MOST 16384 /* bytes of the longest file */
 #define YWS_RUN_MOST 536   /* bytes of the longest run, 67 codes of 8 */
@@ -105,9 +108,10 @@ extern "C" {
  *           Kind 1's meals: 0 not meant, 1 before, 2 just before, 6 during, 3 just after, 4 after, 5 two hours after.
  *           Kind 6: evening and morning 0, 9 or 10, noon 0 or 1
  *   10      kind 2: first hour, 0 to 23, 24 for none
- *   11 - 18 kind 3: hours, 0 to 23, rising, 24 for each left over
- *   19 - 23 kind 5: the three characters of table 8's row, interval, limit, as values
- *   24      kind 7: the value of the pair's second character
+ *   11 - 15 kind 5: the three characters of table 8's row, interval, limit, as values
+ *   16      kind 7: the value of the pair's second character
+ *   17 - 24 kind 3: hours, 0 to 23, rising, 24 for each that it does not name
+ *   25 - 28 left over
  */
 
 /* Reads `length` bytes of `code`. Taken: 0, *place 0, `numbers` written. Refused: 1 to 9, *place as document 01 says. */
@@ -152,14 +156,15 @@ uint16_t yws_set_write(uint8_t issue, const uint32_t days[YWS_DAYS], uint8_t *ou
  *
  * refusal   0 offset of the record's first byte, at the end of the 1Ah's; for YWS_FRAME of the byte at fault
  *           1 field, counted from 1 after the record's number; 0 for none
- *           2 for YWS_CODE the code's own number, 3 its place; else 0
+ *           2 for YWS_CODE the code's own number; else 0
+ *           3 where in the field: for YWS_CODE the character of the code, counted from 1; 0 where there is none to name
  *
  * record    0 the record's number, then its fields in this order, then 0s. An empty number is 0. A text is two numbers, the offset of its
  *           first byte in the file and of the byte after its last; they are equal for an empty text.
  *   51      1 era (0 western, 1 to 4), 2 western year, 3 month, 4 day
  *   101     1 RP, 2 form, 3 4 form name, 5 quantity
- *   111     1 RP, 2 kind, 3 - 27 usage code as yws_usage_read has it (all 0 where it is empty), 28 29 name, 30 times per day
- *   181     1 RP, 2 serial, 3 kind, 4 5 text, 6 - 27 supplementary code as yws_supplement_read has it (all 0 where it is empty), 28 29 site
+ *   111     1 RP, 2 kind, 3 4 name, 5 times per day, 6 - 34 usage code as yws_usage_read has it (all 0 where it is empty)
+ *   181     1 RP, 2 serial, 3 kind, 4 5 text, 6 7 site, 8 - 29 supplementary code as yws_supplement_read has it (all 0 where it is empty)
  *   201     1 RP, 2 serial, 3 kind, 4 code kind, 5 6 drug code, 7 8 name, 9 amount in hundred-thousandths, 10 flag, 11 12 unit
  *   others  1 2 its fields, with the commas between them
  */

@@ -4,17 +4,25 @@
 use crate::seen::see;
 use yawsimbel as _;
 
-type Record = [u64; 31];
-type State = [u64; 11];
+// Lengths of the arrays, as in `include/yawsimbel.h`.
+const USAGE: usize = 29;
+const SUPPLEMENT: usize = 22;
+const RECORD: usize = 40;
+const STATE: usize = 16;
+
+pub type Usage = [u64; USAGE];
+pub type Supplement = [u64; SUPPLEMENT];
+type Record = [u64; RECORD];
+type State = [u64; STATE];
 type Refusal = [u64; 4];
 
 const END: u16 = 65_535;
 
 extern "C" {
-    fn yws_usage_read(code: *const u8, length: usize, numbers: &mut [u64; 25], place: &mut u64) -> u16;
-    fn yws_usage_write(numbers: &[u64; 25], code: &mut [u8; 16]) -> u16;
-    fn yws_supplement_read(code: *const u8, length: usize, numbers: &mut [u64; 22], place: &mut u64) -> u16;
-    fn yws_supplement_write(numbers: &[u64; 22], code: &mut [u8; 8]) -> u16;
+    fn yws_usage_read(code: *const u8, length: usize, numbers: &mut Usage, place: &mut u64) -> u16;
+    fn yws_usage_write(numbers: &Usage, code: &mut [u8; 16]) -> u16;
+    fn yws_supplement_read(code: *const u8, length: usize, numbers: &mut Supplement, place: &mut u64) -> u16;
+    fn yws_supplement_write(numbers: &Supplement, code: &mut [u8; 8]) -> u16;
     fn yws_sheet_check(file: *const u8, length: usize, records: &mut u64, refusal: &mut Refusal) -> u16;
     fn yws_sheet_open(file: *const u8, length: usize, state: &mut State) -> u16;
     fn yws_sheet_next(
@@ -49,7 +57,7 @@ pub fn check(file: &[u8]) -> Result<usize, u16> {
 
 /// Hands every record of a sheet to `take`; how many lines it has, or its refusal's number.
 fn each(file: &[u8], mut take: impl FnMut(&Record)) -> Result<usize, u16> {
-    let (mut state, mut record, mut refusal) = ([0; 11], [0; 31], [0; 4]);
+    let (mut state, mut record, mut refusal) = ([0; STATE], [0; RECORD], [0; 4]);
     let mut lines = 1;
     // SAFETY: as in `check`.
     let mut number = unsafe { yws_sheet_open(file.as_ptr(), file.len(), &mut state) };
@@ -76,7 +84,7 @@ pub fn read(file: &[u8]) -> Result<usize, u16> {
 
 /// Reads every record and writes it again; the length written, or the refusal's number.
 pub fn write(file: &[u8], out: &mut [u8]) -> Result<usize, u16> {
-    let (mut state, mut own, mut number) = ([0; 11], 0, 0);
+    let (mut state, mut own, mut number) = ([0; STATE], 0, 0);
     let (start, room) = (out.as_mut_ptr(), out.len());
     // SAFETY: `out` is a slice of that length, the others are what the header asks for, and none overlaps another.
     unsafe { yws_writer_open(start, room, &mut state) };
@@ -94,21 +102,21 @@ pub fn write(file: &[u8], out: &mut [u8]) -> Result<usize, u16> {
 
 /// Opens a sheet only: the tests of its length, its frame and its version line.
 pub fn open(file: &[u8]) -> bool {
-    let mut state = [0; 11];
+    let mut state = [0; STATE];
     // SAFETY: as in `check`.
     unsafe { yws_sheet_open(file.as_ptr(), file.len(), &mut state) == 0 }
 }
 
 /// The numbers of a usage code.
-pub fn usage_read(code: &[u8]) -> [u64; 25] {
-    let (mut numbers, mut place) = ([0; 25], 0);
+pub fn usage_read(code: &[u8]) -> Usage {
+    let (mut numbers, mut place) = ([0; USAGE], 0);
     // SAFETY: as in `check`.
     unsafe { yws_usage_read(code.as_ptr(), code.len(), &mut numbers, &mut place) };
     numbers
 }
 
 /// The usage code of numbers.
-pub fn usage_write(numbers: &[u64; 25]) -> [u8; 16] {
+pub fn usage_write(numbers: &Usage) -> [u8; 16] {
     let mut code = [0; 16];
     // SAFETY: as in `check`.
     unsafe { yws_usage_write(numbers, &mut code) };
@@ -116,15 +124,15 @@ pub fn usage_write(numbers: &[u64; 25]) -> [u8; 16] {
 }
 
 /// The numbers of a supplementary code.
-pub fn supplement_read(code: &[u8]) -> [u64; 22] {
-    let (mut numbers, mut place) = ([0; 22], 0);
+pub fn supplement_read(code: &[u8]) -> Supplement {
+    let (mut numbers, mut place) = ([0; SUPPLEMENT], 0);
     // SAFETY: as in `check`.
     unsafe { yws_supplement_read(code.as_ptr(), code.len(), &mut numbers, &mut place) };
     numbers
 }
 
 /// The supplementary code of numbers.
-pub fn supplement_write(numbers: &[u64; 22]) -> [u8; 8] {
+pub fn supplement_write(numbers: &Supplement) -> [u8; 8] {
     let mut code = [0; 8];
     // SAFETY: as in `check`.
     unsafe { yws_supplement_write(numbers, &mut code) };

@@ -151,6 +151,15 @@ static void sheet_check(struct question q) {
     say_numbers(refusal, YWS_REFUSAL);
 }
 
+/* The first number of a state that is left over. */
+enum { STATE_LEFT = 11 };
+
+/* Where a state is, and what is left over of it. */
+static void say_state(const uint64_t state[YWS_STATE]) {
+    say_numbers(state, 1);
+    say_numbers(state + STATE_LEFT, YWS_STATE - STATE_LEFT);
+}
+
 /* Every record of a sheet with the place after it, then the end or the refusal; and whether the reader stays there and says it again. */
 static void sheet_records(struct question q) {
     uint64_t state[YWS_STATE], before[YWS_STATE], record[YWS_RECORD], refusal[YWS_REFUSAL], again[YWS_REFUSAL];
@@ -164,7 +173,7 @@ static void sheet_records(struct question q) {
         say_numbers(refusal, YWS_REFUSAL);
         say_numbers(record, YWS_RECORD);
         if (number == 0) {
-            say_numbers(state, 1);
+            say_state(state);
             continue;
         }
         int same = memcmp(before, state, sizeof state) == 0;
@@ -186,7 +195,10 @@ static void sheet_next(struct question q) {
     say_returned(number);
     say_numbers(refusal, YWS_REFUSAL);
     say_numbers(record, YWS_RECORD);
-    say_numbers(state, number == 0 ? 1 : YWS_STATE);
+    if (number == 0)
+        say_state(state);
+    else
+        say_numbers(state, YWS_STATE);
 }
 
 /* A writer's room, its state and a copy of both, to see what a refusal left alone. */
@@ -226,7 +238,7 @@ static void writer_say(uint16_t number, uint64_t own) {
     say_returned(number);
     say_numbers(&own, 1);
     if (number == 0)
-        say_numbers(writer.state, 1);
+        say_state(writer.state);
     else
         say_byte(memcmp(writer.before, writer.out, writer.room) == 0 &&
                  memcmp(writer.state_before, writer.state, sizeof writer.state) == 0);

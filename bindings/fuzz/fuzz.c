@@ -28,6 +28,15 @@ static void hold(int so, const char *what) {
     abort();
 }
 
+/* The first numbers that are left over in a usage code and in a state. */
+enum { USAGE_LEFT = 25, STATE_LEFT = 11 };
+
+static int all_zero(const uint64_t *numbers, size_t count) {
+    while (count > 0)
+        if (numbers[--count] != 0) return 0;
+    return 1;
+}
+
 static void codes(const uint8_t *bytes, size_t length) {
     uint64_t numbers[YWS_USAGE], place;
     memset(numbers, UNTOUCHED, sizeof numbers);
@@ -36,6 +45,7 @@ static void codes(const uint8_t *bytes, size_t length) {
     if (number == 0) {
         uint8_t code[16];
         hold(place == 0 && length == 16, "usage code: taken with a place or a length");
+        hold(all_zero(numbers + USAGE_LEFT, YWS_USAGE - USAGE_LEFT), "usage code: what is left over");
         hold(yws_usage_write(numbers, code) == 0 && memcmp(code, bytes, 16) == 0, "usage code: not written back");
         taken++;
     } else {
@@ -102,6 +112,7 @@ static void sheet(const uint8_t *file, size_t length) {
         }
         read++;
         hold(state[0] > old[0] && state[0] < length, "sheet: the place does not rise");
+        hold(all_zero(state + STATE_LEFT, YWS_STATE - STATE_LEFT), "sheet: what is left over of the reader's state");
         /* A file cut short may leave too little room for the closing byte, then the record is refused for that and nothing is written. */
         memcpy(before, out, room);
         memcpy(old, writer, sizeof old);
@@ -112,6 +123,7 @@ static void sheet(const uint8_t *file, size_t length) {
             return;
         }
         hold(writer[0] == state[0] && memcmp(out, file, writer[0]) == 0, "sheet: a record is written otherwise");
+        hold(all_zero(writer + STATE_LEFT, YWS_STATE - STATE_LEFT), "sheet: what is left over of the writer's state");
     }
     if (number != 0) return;
     hold(records == read + 1, "sheet: the count of records");
@@ -155,7 +167,7 @@ static void numbers(const uint8_t *bytes, size_t length) {
     uint8_t code[16];
     for (size_t i = 0; i < YWS_RECORD && i < length; i++) n[i] = bytes[i];
     if (yws_usage_write(n, code) == 0)
-        hold(yws_usage_read(code, 16, back, &place) == 0 && memcmp(n, back, 8 * YWS_USAGE) == 0, "numbers: not read back as a usage code");
+        hold(yws_usage_read(code, 16, back, &place) == 0 && memcmp(n, back, 8 * USAGE_LEFT) == 0, "numbers: not read back as a usage code");
     if (yws_supplement_write(n, code) == 0)
         hold(yws_supplement_read(code, 8, back, &place) == 0 && memcmp(n, back, 8 * YWS_SUPPLEMENT) == 0, "numbers: not read back as a supplement");
     uint64_t state[YWS_STATE], own;

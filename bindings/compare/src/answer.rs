@@ -45,7 +45,7 @@ pub fn numbers_given(question: &Question, answer: &[u8]) -> Vec<u16> {
             records.take(4);
             let mut calls = 2;
             while !records.0.is_empty() {
-                records.take(31 * 8);
+                records.take(model::RECORD * 8);
                 let length = records.number(2) as usize;
                 records.take(length);
                 calls += 1;
@@ -53,7 +53,7 @@ pub fn numbers_given(question: &Question, answer: &[u8]) -> Vec<u16> {
             let mut given = vec![opened];
             for _ in 0..calls {
                 let (number, own) = (parts.number(2) as u16, parts.number(8) as u16);
-                parts.take(if number == 0 { 8 } else { 1 });
+                parts.take(if number == 0 { 8 * state_at(0).len() } else { 1 });
                 given.push(if own == 0 { number } else { own });
             }
             given
@@ -190,6 +190,13 @@ fn sheet_check(file: &[u8], answer: &mut Answer) {
     answer.numbers(&refusal);
 }
 
+/// What is said of a state that a call left: where it is, and 0s for what is left over.
+fn state_at(place: u64) -> [u64; 1 + model::STATE_LEFT.end - model::STATE_LEFT.start] {
+    let mut said = [0; 1 + model::STATE_LEFT.end - model::STATE_LEFT.start];
+    said[0] = place;
+    said
+}
+
 fn sheet_records(file: &[u8], answer: &mut Answer) {
     let opened = model::open(file);
     answer.returned(opened.as_ref().map_or_else(|r| r.0, |_| 0));
@@ -199,7 +206,7 @@ fn sheet_records(file: &[u8], answer: &mut Answer) {
                 answer.returned(0);
                 answer.numbers(&[0; 4]);
                 answer.numbers(&model::record_numbers(file, &record));
-                answer.numbers(&[reader.offset() as u64]);
+                answer.numbers(&state_at(reader.offset() as u64));
             }
             Ok(None) => break Ok(()),
             Err(refusal) => break Err(model::sheet_refusal(&refusal)),
@@ -211,7 +218,7 @@ fn sheet_records(file: &[u8], answer: &mut Answer) {
     };
     answer.returned(number);
     answer.numbers(&refusal);
-    answer.numbers(&[UNTOUCHED_NUMBER; 31]);
+    answer.numbers(&[UNTOUCHED_NUMBER; model::RECORD]);
     answer.byte(1);
 }
 
@@ -229,10 +236,10 @@ fn sheet_next(mut parts: Parts, answer: &mut Answer) {
     match &next {
         Ok(Some(record)) => {
             answer.numbers(&model::record_numbers(file, record));
-            answer.numbers(&[reader.offset() as u64]);
+            answer.numbers(&state_at(reader.offset() as u64));
         }
         _ => {
-            answer.numbers(&[UNTOUCHED_NUMBER; 31]);
+            answer.numbers(&[UNTOUCHED_NUMBER; model::RECORD]);
             answer.numbers(&state);
         }
     }
@@ -243,7 +250,8 @@ fn written(result: Result<u64, (u16, u64)>, answer: &mut Answer) {
     match result {
         Ok(place) => {
             answer.returned(0);
-            answer.numbers(&[0, place]);
+            answer.numbers(&[0]);
+            answer.numbers(&state_at(place));
         }
         Err((number, own)) => {
             answer.returned(number);

@@ -1,5 +1,7 @@
 //! The functions of `yawsimbel.h` over the independent implementation: its values as the plain numbers of the C interface, and back.
 
+use std::ops::Range;
+
 use independent::date::{self, Date, Era, Style, Wish};
 use independent::days::{self, DaySet};
 use independent::file::{FileRefusal, Reader};
@@ -8,16 +10,30 @@ use independent::supplement::{self, Dates, Period, Supplement, Unequal, Week};
 use independent::usage::{self, Class, Event, Hours, Instruction, Meal, Meals, Part, Parts, Timing};
 use independent::writer::{WriteRefusal, Writer};
 
+// Lengths of the arrays, as in `include/yawsimbel.h`.
+const USAGE: usize = 29;
+const SUPPLEMENT: usize = 22;
+pub const RECORD: usize = 40;
+pub const STATE: usize = 16;
+
 /// The numbers of a usage code.
-pub type UsageNumbers = [u64; 25];
+pub type UsageNumbers = [u64; USAGE];
 /// The numbers of a supplementary code.
-pub type SupplementNumbers = [u64; 22];
+pub type SupplementNumbers = [u64; SUPPLEMENT];
 /// The numbers of a record.
-pub type RecordNumbers = [u64; 31];
-/// Offset, field, the code's own number and place.
+pub type RecordNumbers = [u64; RECORD];
+/// Offset, field, the code's own number, where in the field.
 pub type SheetRefusal = [u64; 4];
 /// The numbers of a reader's or a writer's state.
-pub type State = [u64; 11];
+pub type State = [u64; STATE];
+
+/// Where the hours of kind 3 stand among a usage code's numbers. Those after them are left over.
+const HOURS: Range<usize> = 17..25;
+/// Where a code stands among its record's numbers.
+const USAGE_CODE: Range<usize> = 6..6 + USAGE;
+pub const SUPPLEMENT_CODE: Range<usize> = 8..8 + SUPPLEMENT;
+/// The numbers of a state that are left over.
+pub const STATE_LEFT: Range<usize> = 11..STATE;
 
 /// No hour.
 const NO_HOUR: u64 = 24;
@@ -65,10 +81,10 @@ pub fn usage_write(numbers: &UsageNumbers) -> Option<[u8; 16]> {
 fn usage_numbers(i: &Instruction) -> UsageNumbers {
     let hour = |h: Option<u8>| h.map_or(NO_HOUR, u64::from);
     let flag = u64::from;
-    let mut n = [0; 25];
+    let mut n = [0; USAGE];
     n[9] = NO_HOUR;
     n[10] = NO_HOUR;
-    n[11..19].fill(NO_HOUR);
+    n[HOURS].fill(NO_HOUR);
     n[0] = match i.class {
         Class::Oral => 1,
         Class::External => 2,
@@ -96,14 +112,14 @@ fn usage_numbers(i: &Instruction) -> UsageNumbers {
         Timing::Hours(hours) => {
             n[2] = 3;
             n[3] = u64::from(hours.times());
-            for (cell, hour) in n[11..19].iter_mut().zip(hours.iter()) {
+            for (cell, hour) in n[HOURS].iter_mut().zip(hours.iter()) {
                 *cell = u64::from(hour);
             }
         }
         Timing::Event(e) => {
             n[2] = 5;
             let characters = [e.event[0], e.event[1], e.condition, e.interval, e.limit];
-            n[19..24].copy_from_slice(&characters.map(value));
+            n[11..16].copy_from_slice(&characters.map(value));
         }
         Timing::Parts(p) => {
             let part = |p: Option<Part>| p.map_or(0, |p| value(p as u8));
@@ -115,7 +131,7 @@ fn usage_numbers(i: &Instruction) -> UsageNumbers {
         Timing::Count { times, about } => {
             n[2] = 7;
             n[3] = u64::from(*times);
-            n[24] = value(*about);
+            n[16] = value(*about);
         }
     }
     n
@@ -128,9 +144,9 @@ const NO_INSTRUCTION: Instruction =
 /// The instruction of some numbers; one that no code reads as, where they are no code's.
 fn instruction(n: &UsageNumbers) -> Instruction {
     // The numbers say some things twice (times a day) and have places for things that another kind names, so they are a
-    // code's only where that code's numbers are these.
+    // code's only where that code's numbers are these; those left over are not looked at.
     match instruction_like(n) {
-        Some(i) if usage_numbers(&i) == *n => i,
+        Some(i) if usage_numbers(&i)[..HOURS.end] == n[..HOURS.end] => i,
         _ => NO_INSTRUCTION,
     }
 }
@@ -153,14 +169,14 @@ fn instruction_like(n: &UsageNumbers) -> Option<Instruction> {
         }),
         2 => Timing::Even { times: byte(n[3]), start: hour(n[10]) },
         3 => {
-            let standing = n[11..19].iter().filter(|&&h| h < NO_HOUR);
+            let standing = n[HOURS].iter().filter(|&&h| h < NO_HOUR);
             Timing::Hours(Hours(standing.fold(0, |hours, &h| hours | 1 << h)))
         }
         5 => Timing::Event(Event {
-            event: [character(n[19]), character(n[20])],
-            condition: character(n[21]),
-            interval: character(n[22]),
-            limit: character(n[23]),
+            event: [character(n[11]), character(n[12])],
+            condition: character(n[13]),
+            interval: character(n[14]),
+            limit: character(n[15]),
         }),
         6 => Timing::Parts(Parts {
             bedtime: n[4] != 0,
@@ -170,7 +186,7 @@ fn instruction_like(n: &UsageNumbers) -> Option<Instruction> {
             waking: n[8] != 0,
             hour: hour(n[9]),
         }),
-        7 => Timing::Count { times: byte(n[3]), about: character(n[24]) },
+        7 => Timing::Count { times: byte(n[3]), about: character(n[16]) },
         _ => return None,
     };
     Some(Instruction { class, detail: character(n[1]), timing })
@@ -211,7 +227,7 @@ pub fn supplement_write(numbers: &SupplementNumbers) -> Option<[u8; 8]> {
 }
 
 fn supplement_numbers(s: &Supplement) -> SupplementNumbers {
-    let mut n = [0; 22];
+    let mut n = [0; SUPPLEMENT];
     match s {
         Supplement::OnOff { on, off } => {
             n[0] = u64::from(b'I');
@@ -344,7 +360,7 @@ pub fn sheet_check(file: &[u8]) -> Result<u64, (u16, SheetRefusal)> {
 
 /// A record of a file as its numbers.
 pub fn record_numbers(file: &[u8], record: &Record) -> RecordNumbers {
-    let mut n = [0; 31];
+    let mut n = [0; RECORD];
     n[0] = u64::from(record.number());
     let place = |text: &[u8]| {
         let from = (text.as_ptr() as usize).wrapping_sub(file.as_ptr() as usize);
@@ -367,17 +383,17 @@ pub fn record_numbers(file: &[u8], record: &Record) -> RecordNumbers {
         Record::Usage(usage) => {
             n[1] = u64::from(usage.rp.0);
             n[2] = u64::from(usage.kind);
-            n[3..28].copy_from_slice(&usage.code.as_ref().map_or([0; 25], usage_numbers));
-            n[28..30].copy_from_slice(&place(usage.name));
-            n[30] = optional(usage.times);
+            n[3..5].copy_from_slice(&place(usage.name));
+            n[5] = optional(usage.times);
+            n[USAGE_CODE].copy_from_slice(&usage.code.as_ref().map_or([0; USAGE], usage_numbers));
         }
         Record::Extra(extra) => {
             n[1] = u64::from(extra.rp.0);
             n[2] = u64::from(extra.serial.0);
             n[3] = optional(extra.kind);
             n[4..6].copy_from_slice(&place(extra.text));
-            n[6..28].copy_from_slice(&extra.supplement.as_ref().map_or([0; 22], supplement_numbers));
-            n[28..30].copy_from_slice(&place(extra.site));
+            n[6..8].copy_from_slice(&place(extra.site));
+            n[SUPPLEMENT_CODE].copy_from_slice(&extra.supplement.as_ref().map_or([0; SUPPLEMENT], supplement_numbers));
         }
         Record::Drug(drug) => {
             n[1] = u64::from(drug.rp.0);
@@ -408,26 +424,26 @@ pub fn record_of<'a>(n: &RecordNumbers, lent: &'a [u8]) -> Record<'a> {
         51 => Record::Issue(date_of(&n[1..5])),
         101 => Record::Rp(Rp { rp: RpNumber(half(n[1])), form: byte(n[2]), form_name: text(3), quantity: half(n[5]) }),
         111 => {
-            let mut code = [0; 25];
-            code.copy_from_slice(&n[3..28]);
+            let mut code = [0; USAGE];
+            code.copy_from_slice(&n[USAGE_CODE]);
             Record::Usage(Usage {
                 rp: RpNumber(half(n[1])),
                 kind: byte(n[2]),
                 code: if code[0] == 0 { None } else { Some(instruction(&code)) },
-                name: text(28),
-                times: optional(n[30]),
+                name: text(3),
+                times: optional(n[5]),
             })
         }
         181 => {
-            let mut code = [0; 22];
-            code.copy_from_slice(&n[6..28]);
+            let mut code = [0; SUPPLEMENT];
+            code.copy_from_slice(&n[SUPPLEMENT_CODE]);
             Record::Extra(Extra {
                 rp: RpNumber(half(n[1])),
                 serial: SupplementSerial(byte(n[2])),
                 kind: optional(n[3]),
                 text: text(4),
                 supplement: if code[0] == 0 { None } else { Some(supplement_of(&code)) },
-                site: text(28),
+                site: text(6),
             })
         }
         201 => Record::Drug(Drug {
@@ -464,7 +480,8 @@ pub fn open_writer(out: &mut [u8]) -> Result<Writer<'_>, (u16, u64)> {
 }
 
 /// `yws_sheet_next` on a state that no call gave. The header: "state[1] is 1 while it is open; 21, 22 or 23 for a reader whose opening returned 20,
-/// 21 or 22; any other number says that nothing is open". One that is open has only zeros after that here: no record stands before its place.
+/// 21 or 22; any other number says that nothing is open". One that is open has only zeros after that here, but for
+/// what is left over: no record stands before its place.
 pub fn next_of<'a>(file: &'a [u8], state: &State) -> (Reader<'a>, Result<Option<Record<'a>>, (u16, SheetRefusal)>) {
     let mut reader = Reader::at(file, state[0] as usize);
     let refused = |number| Err((number, [state[0], 0, 0, 0]));

@@ -528,8 +528,8 @@ fn places(number: u64) -> &'static [usize] {
     match number {
         51 => &[],
         101 => &[3],
-        111 => &[28],
-        181 => &[4, 28],
+        111 => &[3],
+        181 => &[4, 6],
         201 => &[5, 7, 11],
         _ => &[1],
     }
@@ -562,8 +562,8 @@ fn damage_records(random: &mut Random, records: &mut Vec<Put>) {
         let letter = *random.of(b"IWDCVD");
         if let Ok(code) = model::supplement_read(&grown_supplement(random, letter)) {
             numbers[3] = 8;
-            numbers[6..28].copy_from_slice(&code);
-            numbers[29] = numbers[28];
+            numbers[7] = numbers[6];
+            numbers[model::SUPPLEMENT_CODE].copy_from_slice(&code);
         }
         return;
     }
@@ -599,11 +599,11 @@ fn damage_records(random: &mut Random, records: &mut Vec<Put>) {
             lent[place] = *random.of(&[0, 10, 13, 0x1a, b',', b' ', 0x7f, 0x81, 0xa0, b'a']);
         }
         8 => {
-            let cell = random.below(31);
+            let cell = random.below(model::RECORD);
             numbers[cell] = random.any() >> random.below(64);
         }
         _ => {
-            let last = *random.of(&[4, 12, 30]);
+            let last = *random.of(&[4, 12, model::RECORD - 1]);
             let cell = random.between(1, last);
             let standing = numbers[cell];
             let any = [

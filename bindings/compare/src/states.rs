@@ -1,7 +1,7 @@
 //! Questions about states that no call gave: zeros, places outside the file or the buffer, made-up numbers.
 
 use crate::answer::Question;
-use crate::model::State;
+use crate::model::{self, State};
 use crate::random::Random;
 use crate::sheets;
 
@@ -18,7 +18,7 @@ pub fn states(random: &mut Random, corpus: &[Vec<u8>], count: usize, ask: &mut i
     for file in corpus {
         for place in [0, 100] {
             for &second in SECOND {
-                let mut state = [0; 11];
+                let mut state = [0; model::STATE];
                 state[0] = place;
                 state[1] = second;
                 about(random, &state, file, ask);
@@ -32,9 +32,10 @@ pub fn states(random: &mut Random, corpus: &[Vec<u8>], count: usize, ask: &mut i
     }
 }
 
-/// A state of chance. What is open has zeros after its second number, so that it stands before the first record, wherever it is.
+/// A state of chance. What is open has zeros after its second number, but for what is left over, so that it stands before the first record, wherever
+/// it is.
 fn state(random: &mut Random, file: &[u8]) -> State {
-    let mut state = [0; 11];
+    let mut state = [0; model::STATE];
     let length = file.len();
     let at = random.below(length + 1);
     let line = file[..at].iter().rposition(|&c| c == b'\n').map_or(0, |end| end + 1);
@@ -42,8 +43,9 @@ fn state(random: &mut Random, file: &[u8]) -> State {
         [0, 8, 8, 100, at, line, line, length.saturating_sub(1), length, length + 1, 16_384, 1 << 32, usize::MAX];
     state[0] = *random.of(&places) as u64;
     state[1] = *random.of(SECOND);
-    if state[1] != 1 && random.once_in(2) {
-        state[2..].fill_with(|| random.any() >> random.below(64));
+    if random.once_in(2) {
+        let filled = if state[1] == 1 { model::STATE_LEFT } else { 2..model::STATE };
+        state[filled].fill_with(|| random.any() >> random.below(64));
     }
     state
 }
@@ -56,7 +58,7 @@ fn about(random: &mut Random, state: &State, file: &[u8], ask: &mut impl FnMut(Q
     ask(Question { asked: b'N', bytes });
     // A first record, one that is none, and their room.
     let room: u32 = *random.of(&[0, 8, 9, 30, 200, 16_384, 16_500]);
-    let mut record = [0; 31];
+    let mut record = [0; model::RECORD];
     record[0] = *random.of(&[1, 1, 1, 5, 201, 0]);
     record[2] = 4;
     let mut bytes = room.to_le_bytes().to_vec();

@@ -31,7 +31,7 @@ impl DaySet {
 
     /// Reads a run of codes, one after another, of a sheet issued in the month `issue`.
     pub fn read(issue: u8, codes: &[u8]) -> Result<DaySet, RunRefusal> {
-        let mut masks = [0; 13];
+        let mut masks = [0; ffi::DAYS];
         let mut refusal = [0; 2];
         // SAFETY: `codes` is a slice of that length, the others are arrays of the right lengths, and none overlaps another.
         match unsafe { ffi::yws_run_read(issue, codes.as_ptr(), codes.len(), &mut masks, &mut refusal) } {

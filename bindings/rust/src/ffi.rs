@@ -2,13 +2,22 @@
 
 pub const END: u16 = 65_535;
 
-pub type Usage = [u64; 25];
-pub type Supplement = [u64; 22];
-pub type Days = [u32; 13];
-pub type Date = [u64; 4];
-pub type Record = [u64; 31];
-pub type State = [u64; 11];
-pub type Refusal = [u64; 4];
+// Lengths of the arrays, under the header's names.
+pub const USAGE: usize = 29;
+pub const SUPPLEMENT: usize = 22;
+pub const DAYS: usize = 13;
+pub const DATE: usize = 4;
+pub const RECORD: usize = 40;
+pub const STATE: usize = 16;
+pub const REFUSAL: usize = 4;
+
+pub type Usage = [u64; USAGE];
+pub type Supplement = [u64; SUPPLEMENT];
+pub type Days = [u32; DAYS];
+pub type Date = [u64; DATE];
+pub type Record = [u64; RECORD];
+pub type State = [u64; STATE];
+pub type Refusal = [u64; REFUSAL];
 
 // Arrays are passed by reference: a reference to an array is a pointer to its first element, never NULL.
 extern "C" {

@@ -1,5 +1,7 @@
 //! The records of a sheet.
 
+use core::ops::Range;
+
 use crate::ffi;
 use crate::{Date, Supplement, Usage};
 
@@ -110,6 +112,10 @@ fn optional_number(number: Option<u16>) -> u64 {
     }
 }
 
+/// Where a code stands among its record's numbers: after all of its other fields.
+const USAGE_CODE: Range<usize> = 6..6 + ffi::USAGE;
+const SUPPLEMENT_CODE: Range<usize> = 8..8 + ffi::SUPPLEMENT;
+
 impl<'a> Record<'a> {
     /// The record's number.
     pub fn number(&self) -> u16 {
@@ -133,26 +139,26 @@ impl<'a> Record<'a> {
                 Record::Rp(RpRecord { rp: n[1] as u16, form: n[2] as u16, form_name: text(3), quantity: n[5] as u16 })
             }
             111 => {
-                let mut code = [0; 25];
-                code.copy_from_slice(&n[3..28]);
+                let mut code = [0; ffi::USAGE];
+                code.copy_from_slice(&n[USAGE_CODE]);
                 Record::Usage(UsageRecord {
                     rp: n[1] as u16,
                     kind: n[2] as u16,
                     code: if code[0] == 0 { None } else { Some(Usage::of(&code)) },
-                    name: text(28),
-                    times: optional(n[30]),
+                    name: text(3),
+                    times: optional(n[5]),
                 })
             }
             181 => {
-                let mut code = [0; 22];
-                code.copy_from_slice(&n[6..28]);
+                let mut code = [0; ffi::SUPPLEMENT];
+                code.copy_from_slice(&n[SUPPLEMENT_CODE]);
                 Record::Supplement(SupplementRecord {
                     rp: n[1] as u16,
                     serial: n[2] as u16,
                     kind: optional(n[3]),
                     text: text(4),
                     code: if code[0] == 0 { None } else { Some(Supplement::of(&code)) },
-                    site: text(28),
+                    site: text(6),
                 })
             }
             201 => Record::Drug(DrugRecord {
@@ -172,7 +178,7 @@ impl<'a> Record<'a> {
 
     /// Its numbers, with its texts in one piece of bytes: one text as it is, more of them side by side in `scratch`.
     pub(crate) fn lent<'s>(&'s self, scratch: &'s mut Scratch) -> (ffi::Record, &'s [u8]) {
-        let mut n = [0; 31];
+        let mut n = [0; ffi::RECORD];
         n[0] = u64::from(self.number());
         let lent = match self {
             Record::Issue(date) => {
@@ -189,18 +195,18 @@ impl<'a> Record<'a> {
             Record::Usage(usage) => {
                 n[1] = u64::from(usage.rp);
                 n[2] = u64::from(usage.kind);
-                n[3..28].copy_from_slice(&usage.code.map_or([0; 25], |code| code.numbers()));
-                n[29] = usage.name.len() as u64;
-                n[30] = optional_number(usage.times);
+                n[4] = usage.name.len() as u64;
+                n[5] = optional_number(usage.times);
+                n[USAGE_CODE].copy_from_slice(&usage.code.map_or([0; ffi::USAGE], |code| code.numbers()));
                 usage.name
             }
             Record::Supplement(supplement) => {
                 n[1] = u64::from(supplement.rp);
                 n[2] = u64::from(supplement.serial);
                 n[3] = optional_number(supplement.kind);
-                n[6..28].copy_from_slice(&supplement.code.map_or([0; 22], |code| code.numbers()));
                 n[4..6].copy_from_slice(&scratch.add(supplement.text, 100));
-                n[28..30].copy_from_slice(&scratch.add(supplement.site, 3));
+                n[6..8].copy_from_slice(&scratch.add(supplement.site, 3));
+                n[SUPPLEMENT_CODE].copy_from_slice(&supplement.code.map_or([0; ffi::SUPPLEMENT], |code| code.numbers()));
                 scratch.all()
             }
             Record::Drug(drug) => {

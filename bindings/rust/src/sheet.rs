@@ -36,7 +36,7 @@ impl SheetRefusal {
 /// Checks a whole file and counts its records, the version line with them.
 pub fn check(file: &[u8]) -> Result<u64, SheetRefusal> {
     let mut records = 0;
-    let mut refusal = [0; 4];
+    let mut refusal = [0; ffi::REFUSAL];
     // SAFETY: `file` is a slice of that length, the others are of the right lengths, and none overlaps another.
     match unsafe { ffi::yws_sheet_check(file.as_ptr(), file.len(), &mut records, &mut refusal) } {
         0 => Ok(records),
@@ -56,7 +56,7 @@ pub struct Sheet<'a> {
 impl<'a> Sheet<'a> {
     /// Begins to read a file. What is wrong with it as a whole is the first thing that the iterator says.
     pub fn open(file: &'a [u8]) -> Sheet<'a> {
-        let mut state = [0; 11];
+        let mut state = [0; ffi::STATE];
         // SAFETY: `file` is a slice of that length, `state` of the right length, and they do not overlap.
         // The answer may be left alone: yws_sheet_next says it again, with its place.
         let _ = unsafe { ffi::yws_sheet_open(file.as_ptr(), file.len(), &mut state) };
@@ -76,8 +76,8 @@ impl<'a> Iterator for Sheet<'a> {
         if self.ended {
             return None;
         }
-        let mut record = [0; 31];
-        let mut refusal = [0; 4];
+        let mut record = [0; ffi::RECORD];
+        let mut refusal = [0; ffi::REFUSAL];
         // SAFETY: `file` is the slice that `state` was made for, borrowed since so unchanged; the others are of the right lengths, and none
         // overlaps another.
         let number = unsafe {
@@ -122,7 +122,7 @@ pub struct Writer<'b> {
 impl<'b> Writer<'b> {
     /// Begins a file with its version line.
     pub fn open(out: &'b mut [u8]) -> Result<Writer<'b>, WriteRefusal> {
-        let mut state = [0; 11];
+        let mut state = [0; ffi::STATE];
         // SAFETY: `out` is a slice of that length, `state` of the right length, and they do not overlap.
         match unsafe { ffi::yws_writer_open(out.as_mut_ptr(), out.len(), &mut state) } {
             0 => Ok(Writer { out, state }),
@@ -180,16 +180,16 @@ mod states {
 
     /// What the next call on a state says, and that it leaves the state.
     fn next(state: ffi::State) -> (u16, ffi::Refusal) {
-        let (mut after, mut record, mut refusal) = (state, [7; 31], [7; 4]);
+        let (mut after, mut record, mut refusal) = (state, [7; ffi::RECORD], [7; ffi::REFUSAL]);
         // SAFETY: `FILE` is a slice of that length, the others are of the right lengths, and none overlaps another.
         let number = unsafe { ffi::yws_sheet_next(FILE.as_ptr(), FILE.len(), &mut after, &mut record, &mut refusal) };
-        assert_eq!((after, record), (state, [7; 31]));
+        assert_eq!((after, record), (state, [7; ffi::RECORD]));
         (number, refusal)
     }
 
     /// What a put and the close say of a writer's state, with the reader's number; and that they leave state and buffer.
     fn put_and_close(state: ffi::State) -> [(u16, u64); 2] {
-        let (mut after, mut out, mut record, mut own) = (state, [b'!'; 99], [0; 31], [7; 2]);
+        let (mut after, mut out, mut record, mut own) = (state, [b'!'; 99], [0; ffi::RECORD], [7; 2]);
         record[0] = 1;
         // SAFETY: `out` and `FILE` are slices of those lengths, the others are of the right lengths, and none overlaps another.
         let numbers = unsafe {
@@ -203,7 +203,7 @@ mod states {
     }
 
     fn state(place: u64, second: u64) -> ffi::State {
-        let mut state = [0; 11];
+        let mut state = [0; ffi::STATE];
         state[0] = place;
         state[1] = second;
         state
@@ -224,7 +224,7 @@ mod states {
         for (second, number) in [(21, 20), (22, 21), (23, 22)] {
             assert_eq!(next(state(5, second)), (number, [5, 0, 0, 0]));
         }
-        let mut opened = [0; 11];
+        let mut opened = [0; ffi::STATE];
         // SAFETY: the bytes and `opened` are of the right lengths and do not overlap.
         let number = unsafe { ffi::yws_sheet_open(b"JAHIS5".as_ptr(), 6, &mut opened) };
         assert_eq!((number, opened), (21, state(6, 22)));
@@ -241,9 +241,9 @@ mod states {
 
     #[test]
     fn no_room_leaves_the_state() {
-        let (mut after, mut out) = ([7; 11], [b'!'; 8]);
+        let (mut after, mut out) = ([7; ffi::STATE], [b'!'; 8]);
         // SAFETY: `out` is a slice of that length, `after` of the right length, and they do not overlap.
         let number = unsafe { ffi::yws_writer_open(out.as_mut_ptr(), 8, &mut after) };
-        assert_eq!((number, after, out), (33, [7; 11], [b'!'; 8]));
+        assert_eq!((number, after, out), (33, [7; ffi::STATE], [b'!'; 8]));
     }
 }

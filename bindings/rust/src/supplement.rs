@@ -59,7 +59,7 @@ fn small(number: u64) -> u8 {
 impl Supplement {
     /// Reads a code.
     pub fn read(code: &[u8]) -> Result<Supplement, CodeRefusal> {
-        let mut numbers = [0; 22];
+        let mut numbers = [0; ffi::SUPPLEMENT];
         let mut place = 0;
         // SAFETY: `code` is a slice of that length, the others are arrays of the right lengths, and none overlaps another.
         match unsafe { ffi::yws_supplement_read(code.as_ptr(), code.len(), &mut numbers, &mut place) } {
@@ -109,7 +109,7 @@ impl Supplement {
     }
 
     pub(crate) fn numbers(&self) -> ffi::Supplement {
-        let mut n = [0; 22];
+        let mut n = [0; ffi::SUPPLEMENT];
         match *self {
             Supplement::Interval { on, off } => {
                 n[0] = u64::from(b'I');

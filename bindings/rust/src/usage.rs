@@ -1,5 +1,7 @@
 //! Usage codes: sixteen characters that say how and when a drug is taken.
 
+use core::ops::Range;
+
 use crate::ffi;
 use crate::{CodeRefusal, Reason};
 
@@ -114,6 +116,9 @@ pub enum Part {
 /// An hour's number where there is none.
 const NO_HOUR: u64 = 24;
 
+/// Where the hours of kind 3 stand among a code's numbers.
+const HOURS: Range<usize> = 17..25;
+
 pub(crate) fn character(value: u64) -> u8 {
     match value {
         0..=9 => b'0' + value as u8,
@@ -167,7 +172,7 @@ fn part(number: u64) -> Option<Part> {
 impl Usage {
     /// Reads a code.
     pub fn read(code: &[u8]) -> Result<Usage, CodeRefusal> {
-        let mut numbers = [0; 25];
+        let mut numbers = [0; ffi::USAGE];
         let mut place = 0;
         // SAFETY: `code` is a slice of that length, the others are arrays of the right lengths, and none overlaps another.
         match unsafe { ffi::yws_usage_read(code.as_ptr(), code.len(), &mut numbers, &mut place) } {
@@ -201,13 +206,13 @@ impl Usage {
             2 => Timing::Even { times, start: hour(n[10]) },
             3 => {
                 let mut hours = [None; 8];
-                hours.iter_mut().zip(&n[11..19]).for_each(|(cell, number)| *cell = hour(*number));
+                hours.iter_mut().zip(&n[HOURS]).for_each(|(cell, number)| *cell = hour(*number));
                 Timing::Hours(hours)
             }
             5 => Timing::Event {
-                row: [character(n[19]), character(n[20]), character(n[21])],
-                interval: character(n[22]),
-                limit: character(n[23]),
+                row: [character(n[11]), character(n[12]), character(n[13])],
+                interval: character(n[14]),
+                limit: character(n[15]),
             },
             6 => Timing::Parts {
                 bedtime: n[4] != 0,
@@ -217,15 +222,16 @@ impl Usage {
                 waking: n[8] != 0,
                 hour: hour(n[9]),
             },
-            _ => Timing::Count { times, about: character(n[24]) },
+            _ => Timing::Count { times, about: character(n[16]) },
         };
         let class = if n[0] == 1 { Class::Oral } else { Class::External };
         Usage { class, detail: character(n[1]), timing }
     }
 
     pub(crate) fn numbers(&self) -> ffi::Usage {
-        let mut n = [0; 25];
-        n[9..19].fill(NO_HOUR);
+        let mut n = [0; ffi::USAGE];
+        n[9..11].fill(NO_HOUR);
+        n[HOURS].fill(NO_HOUR);
         n[0] = match self.class {
             Class::Oral => 1,
             Class::External => 2,
@@ -253,11 +259,11 @@ impl Usage {
             Timing::Hours(hours) => {
                 n[2] = 3;
                 n[3] = hours.iter().flatten().count() as u64;
-                n[11..19].iter_mut().zip(hours).for_each(|(cell, hour)| *cell = hour_number(hour));
+                n[HOURS].iter_mut().zip(hours).for_each(|(cell, hour)| *cell = hour_number(hour));
             }
             Timing::Event { row, interval, limit } => {
                 n[2] = 5;
-                n[19..24].copy_from_slice(&[row[0], row[1], row[2], interval, limit].map(value));
+                n[11..16].copy_from_slice(&[row[0], row[1], row[2], interval, limit].map(value));
             }
             Timing::Parts { bedtime, evening, noon, morning, waking, hour } => {
                 let part = |part: Option<Part>| part.map_or(0, |part| part as u64);
@@ -275,7 +281,7 @@ impl Usage {
             Timing::Count { times, about } => {
                 n[2] = 7;
                 n[3] = u64::from(times);
-                n[24] = value(about);
+                n[16] = value(about);
             }
         }
         n
