@@ -8,7 +8,9 @@ use mathlib.Core.Bool.{Bool, true, false, cond}
 use mathlib.Core.List.{List, [], _∷_}
 use lib.Dec.{eqb}
 use lib.ListN.{length}
-use Rattle.usage.specs.Usage.{Rows, table8, said}
+use Rattle.cells.specs.Limits.{hoursMost}
+use Rattle.cells.specs.Text.{bytes}
+use Rattle.usage.specs.Usage.{hourCounts, Rows, table8, said}
 use Rattle.usage.specs.declared.Reading.{Reading}
 use Rattle.usage.specs.declared.Reading.the-variants.{Taken, Refused}
 
@@ -43,3 +45,8 @@ distinct (x ∷ xs) = cond (member x xs) false (distinct xs)
 -- "the 63 rows"
 pub sixty-three : (length (listed table8) ≡ 63) × (distinct (listed table8) ≡ true)
 sixty-three = (refl, refl)
+
+-- A code of fixed hours counts one to as many as a code has at most.
+pub hours-most : length (bytes hourCounts) ≡ hoursMost
+unfolding bytes
+hours-most = refl

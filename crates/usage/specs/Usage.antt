@@ -84,9 +84,13 @@ abbrev pub risings : ℕ → List Cell
 risings zero = []
 risings (suc n) = rising hours ∷ risings n
 
+-- "1 to 8": as many counts as a code has hours at most (`hoursMost`; `Rattle.usage.proofs.Laws.hours-most`).
+abbrev pub hourCounts : String
+hourCounts = "12345678"
+
 -- The 4th, the first hour, and n - 1 hours that rise.
 abbrev pub clockCells : ℕ → List Cell
-clockCells n = set "12345678" ∷ set hours ∷ risings (n - 1)
+clockCells n = set hourCounts ∷ set hours ∷ risings (n - 1)
 
 -- The tests of kind 3.
 abbrev pub clockTests : List ℕ → List Test
