@@ -8,6 +8,7 @@
  *
  * POINTERS. Memory is the caller's, before and after. No pointer may be NULL, not even where a length is 0. An array has at least the
  * length written in its brackets. What a function writes may not overlap anything else that it is lent. Bytes read need no 0 at their end.
+ * A length is 64 bits wide on every machine.
  *
  * REFUSALS. A call that returns another number than 0 leaves all that it was lent as it was, except for what says where and why
  * (`place`, `refusal`, `own`), which is written by every call, with 0s where there is nothing to say; and except for the `state` of
@@ -45,7 +46,6 @@
 #ifndef YAWSIMBEL_H
 #define YAWSIMBEL_H
 
-#include <stddef.h>
 #include <stdint.h>
 
 #ifdef __cplusplus
@@ -115,7 +115,7 @@ extern "C" {
  */
 
 /* Reads `length` bytes of `code`. Taken: 0, *place 0, `numbers` written. Refused: 1 to 9, *place as document 01 says. */
-uint16_t yws_usage_read(const uint8_t *code, size_t length, uint64_t numbers[YWS_USAGE], uint64_t *place);
+uint16_t yws_usage_read(const uint8_t *code, uint64_t length, uint64_t numbers[YWS_USAGE], uint64_t *place);
 
 /* Writes the sixteen characters that read as `numbers`, with no 0 after them; YWS_NO_CODE where no code reads as them. */
 uint16_t yws_usage_write(const uint64_t numbers[YWS_USAGE], uint8_t code[16]);
@@ -133,7 +133,7 @@ uint16_t yws_usage_write(const uint64_t numbers[YWS_USAGE], uint8_t code[16]);
  */
 
 /* As yws_usage_read. */
-uint16_t yws_supplement_read(const uint8_t *code, size_t length, uint64_t numbers[YWS_SUPPLEMENT], uint64_t *place);
+uint16_t yws_supplement_read(const uint8_t *code, uint64_t length, uint64_t numbers[YWS_SUPPLEMENT], uint64_t *place);
 
 /* As yws_usage_write, eight characters. */
 uint16_t yws_supplement_write(const uint64_t numbers[YWS_SUPPLEMENT], uint8_t code[8]);
@@ -145,12 +145,12 @@ uint16_t yws_supplement_write(const uint64_t numbers[YWS_SUPPLEMENT], uint8_t co
 
 /* Reads a run, codes one after another, for the issue month `issue`. Taken: 0, `refusal` 0s, `days` written. Refused: refusal[0] the place,
  * refusal[1] for a code's own refusal (1 to 9) the number of the code, counted from 1, else 0. */
-uint16_t yws_run_read(uint8_t issue, const uint8_t *codes, size_t length, uint32_t days[YWS_DAYS], uint64_t refusal[2]);
+uint16_t yws_run_read(uint8_t issue, const uint8_t *codes, uint64_t length, uint32_t days[YWS_DAYS], uint64_t refusal[2]);
 
 /* Writes the run for a set into the front of `out` and the number of its codes, of eight characters each, into *count; the rest of the `room`
  * bytes stays. YWS_ISSUE_MONTH; YWS_DAY_SET for a set that is empty, holds a day that no calendar has, or mixes every-month days with a
  * named month's; YWS_ROOM exactly when `room` is less than 8 times the codes. YWS_RUN_MOST bytes are always enough. */
-uint16_t yws_set_write(uint8_t issue, const uint32_t days[YWS_DAYS], uint8_t *out, size_t room, uint64_t *count);
+uint16_t yws_set_write(uint8_t issue, const uint32_t days[YWS_DAYS], uint8_t *out, uint64_t room, uint64_t *count);
 
 /* ---- Sheets, read.
  *
@@ -170,17 +170,17 @@ uint16_t yws_set_write(uint8_t issue, const uint32_t days[YWS_DAYS], uint8_t *ou
  */
 
 /* Reads a whole file. Taken: 0, `refusal` 0s, and in *records how many records it has, the version line counted. */
-uint16_t yws_sheet_check(const uint8_t *file, size_t length, uint64_t *records, uint64_t refusal[YWS_REFUSAL]);
+uint16_t yws_sheet_check(const uint8_t *file, uint64_t length, uint64_t *records, uint64_t refusal[YWS_REFUSAL]);
 
 /* Begins to read a file: 0, or YWS_TOO_LONG, YWS_FRAME or YWS_VERSION. Writes `state` either way; yws_sheet_next then says the refusal again,
  * with its offset. state[0] is the offset of the next record, or of the refusal. */
-uint16_t yws_sheet_open(const uint8_t *file, size_t length, uint64_t state[YWS_STATE]);
+uint16_t yws_sheet_open(const uint8_t *file, uint64_t length, uint64_t state[YWS_STATE]);
 
 /* The next record of the same, unchanged file: 0, and `record` and `state` written. YWS_END after the last; else the refusal. After the end or a
  * refusal `state` is as it was, so the next call says the same. `refusal` is 0s after 0 and YWS_END. The version line is no record.
  * Whatever stands in `state`, it returns 0, YWS_END or a number from 20 to 32, and YWS_END only where the file has its 1Ah at state[0]; at an
  * offset outside the file there is no record (YWS_UNKNOWN). */
-uint16_t yws_sheet_next(const uint8_t *file, size_t length, uint64_t state[YWS_STATE], uint64_t record[YWS_RECORD], uint64_t refusal[YWS_REFUSAL]);
+uint16_t yws_sheet_next(const uint8_t *file, uint64_t length, uint64_t state[YWS_STATE], uint64_t record[YWS_RECORD], uint64_t refusal[YWS_REFUSAL]);
 
 /* ---- Sheets, written.
  *
@@ -189,7 +189,7 @@ uint16_t yws_sheet_next(const uint8_t *file, size_t length, uint64_t state[YWS_S
  */
 
 /* Begins a file: the version line, and `state` written; or YWS_ROOM. */
-uint16_t yws_writer_open(uint8_t *out, size_t room, uint64_t state[YWS_STATE]);
+uint16_t yws_writer_open(uint8_t *out, uint64_t room, uint64_t state[YWS_STATE]);
 
 /* Puts a record, laid out as yws_sheet_next has it, whose texts are offsets into the `length` bytes of `lent`: a file that was read, or a
  * buffer with the texts of one record. A text whose offsets are not inside `lent`, or fall, is one that no field takes (26, 27 for a site, 28
@@ -197,12 +197,12 @@ uint16_t yws_writer_open(uint8_t *out, size_t room, uint64_t state[YWS_STATE]);
  * looked at. A code whose first number is 0 is empty. YWS_RECORD_REFUSED, with the reader's number in *own (24
  * after closing and before opening), where the reader would refuse the record here; then YWS_ROOM exactly when the line with its CR LF and the closing 1Ah pass
  * `room` or YWS_FILE_MOST. *own is 0 but for YWS_RECORD_REFUSED. */
-uint16_t yws_writer_put(uint8_t *out, size_t room, uint64_t state[YWS_STATE], const uint64_t record[YWS_RECORD], const uint8_t *lent, size_t length,
+uint16_t yws_writer_put(uint8_t *out, uint64_t room, uint64_t state[YWS_STATE], const uint64_t record[YWS_RECORD], const uint8_t *lent, uint64_t length,
                         uint64_t *own);
 
 /* Ends the file: the 1Ah, for which every record left room. Too early is YWS_RECORD_REFUSED with 32 in *own; a second time, and
  * before opening, with 24. */
-uint16_t yws_writer_close(uint8_t *out, size_t room, uint64_t state[YWS_STATE], uint64_t *own);
+uint16_t yws_writer_close(uint8_t *out, uint64_t room, uint64_t state[YWS_STATE], uint64_t *own);
 
 /* ---- Dates. */
 
