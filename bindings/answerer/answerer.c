@@ -67,58 +67,58 @@ static const uint8_t *take(struct question *q, size_t length) {
 static uint64_t take_number(struct question *q, int length) { return number_at(take(q, (size_t) length), length); }
 
 static void usage_read(struct question q) {
-    uint64_t numbers[YWS_USAGE], place;
+    uint64_t numbers[YWS_LEN_USAGE], place;
     memset(numbers, UNTOUCHED, sizeof numbers);
     memset(&place, UNTOUCHED, sizeof place);
     uint16_t number = yws_usage_read(q.bytes, q.length, numbers, &place);
     say_returned(number);
     say_numbers(&place, 1);
-    say_numbers(numbers, YWS_USAGE);
+    say_numbers(numbers, YWS_LEN_USAGE);
 }
 
 static void usage_write(struct question q) {
-    uint64_t numbers[YWS_USAGE];
-    uint8_t *code = out_end - 16;
-    for (int i = 0; i < YWS_USAGE; i++) numbers[i] = take_number(&q, 8);
-    memset(code, UNTOUCHED, 16);
+    uint64_t numbers[YWS_LEN_USAGE];
+    uint8_t *code = out_end - YWS_LEN_USAGE_CODE;
+    for (int i = 0; i < YWS_LEN_USAGE; i++) numbers[i] = take_number(&q, 8);
+    memset(code, UNTOUCHED, YWS_LEN_USAGE_CODE);
     say_returned(yws_usage_write(numbers, code));
-    say(code, 16);
+    say(code, YWS_LEN_USAGE_CODE);
 }
 
 static void supplement_read(struct question q) {
-    uint64_t numbers[YWS_SUPPLEMENT], place;
+    uint64_t numbers[YWS_LEN_SUPPLEMENT], place;
     memset(numbers, UNTOUCHED, sizeof numbers);
     memset(&place, UNTOUCHED, sizeof place);
     uint16_t number = yws_supplement_read(q.bytes, q.length, numbers, &place);
     say_returned(number);
     say_numbers(&place, 1);
-    say_numbers(numbers, YWS_SUPPLEMENT);
+    say_numbers(numbers, YWS_LEN_SUPPLEMENT);
 }
 
 static void supplement_write(struct question q) {
-    uint64_t numbers[YWS_SUPPLEMENT];
-    uint8_t *code = out_end - 8;
-    for (int i = 0; i < YWS_SUPPLEMENT; i++) numbers[i] = take_number(&q, 8);
-    memset(code, UNTOUCHED, 8);
+    uint64_t numbers[YWS_LEN_SUPPLEMENT];
+    uint8_t *code = out_end - YWS_LEN_SUPPLEMENT_CODE;
+    for (int i = 0; i < YWS_LEN_SUPPLEMENT; i++) numbers[i] = take_number(&q, 8);
+    memset(code, UNTOUCHED, YWS_LEN_SUPPLEMENT_CODE);
     say_returned(yws_supplement_write(numbers, code));
-    say(code, 8);
+    say(code, YWS_LEN_SUPPLEMENT_CODE);
 }
 
 static void run_read(struct question q) {
     uint8_t issue = *take(&q, 1);
-    uint32_t days[YWS_DAYS];
-    uint64_t refusal[2];
+    uint32_t days[YWS_LEN_DAYS];
+    uint64_t refusal[YWS_LEN_RUN_REFUSAL];
     memset(days, UNTOUCHED, sizeof days);
     memset(refusal, UNTOUCHED, sizeof refusal);
     say_returned(yws_run_read(issue, q.bytes, q.length, days, refusal));
-    say_numbers(refusal, 2);
-    for (int i = 0; i < YWS_DAYS; i++) say_numbers(&(uint64_t){days[i]}, 1);
+    say_numbers(refusal, YWS_LEN_RUN_REFUSAL);
+    for (int i = 0; i < YWS_LEN_DAYS; i++) say_numbers(&(uint64_t){days[i]}, 1);
 }
 
 static void set_write(struct question q) {
     uint8_t issue = *take(&q, 1);
-    uint32_t days[YWS_DAYS];
-    for (int i = 0; i < YWS_DAYS; i++) days[i] = (uint32_t) take_number(&q, 4);
+    uint32_t days[YWS_LEN_DAYS];
+    for (int i = 0; i < YWS_LEN_DAYS; i++) days[i] = (uint32_t) take_number(&q, 4);
     size_t room = take_number(&q, 4);
     if (room > LENT_MOST) stop("too much room asked for");
     uint8_t *out = out_end - room;
@@ -133,53 +133,54 @@ static void set_write(struct question q) {
 static void date_make(struct question q) {
     uint16_t year = (uint16_t) take_number(&q, 2);
     uint8_t month = *take(&q, 1), day = *take(&q, 1), style = *take(&q, 1);
-    uint64_t numbers[YWS_DATE];
-    uint8_t *text = out_end - 8;
+    uint64_t numbers[YWS_LEN_DATE];
+    uint8_t *text = out_end - YWS_LEN_DATE_TEXT;
     memset(numbers, UNTOUCHED, sizeof numbers);
-    memset(text, UNTOUCHED, 8);
+    memset(text, UNTOUCHED, YWS_LEN_DATE_TEXT);
     say_returned(yws_date_make(year, month, day, style, numbers, text));
-    say_numbers(numbers, YWS_DATE);
-    say(text, 8);
+    say_numbers(numbers, YWS_LEN_DATE);
+    say(text, YWS_LEN_DATE_TEXT);
 }
 
 static void sheet_check(struct question q) {
-    uint64_t records, refusal[YWS_REFUSAL];
+    uint64_t records, refusal[YWS_LEN_REFUSAL];
     memset(&records, UNTOUCHED, sizeof records);
     memset(refusal, UNTOUCHED, sizeof refusal);
     say_returned(yws_sheet_check(q.bytes, q.length, &records, refusal));
     say_numbers(&records, 1);
-    say_numbers(refusal, YWS_REFUSAL);
+    say_numbers(refusal, YWS_LEN_REFUSAL);
 }
 
 /* The first number of a state that is left over. */
 enum { STATE_LEFT = 11 };
 
 /* Where a state is, and what is left over of it. */
-static void say_state(const uint64_t state[YWS_STATE]) {
-    say_numbers(state, 1);
-    say_numbers(state + STATE_LEFT, YWS_STATE - STATE_LEFT);
+static void say_state(const uint64_t state[YWS_LEN_STATE]) {
+    say_numbers(state + YWS_STATE_AT, 1);
+    say_numbers(state + STATE_LEFT, YWS_LEN_STATE - STATE_LEFT);
 }
 
 /* Every record of a sheet with the place after it, then the end or the refusal; and whether the reader stays there and says it again. */
 static void sheet_records(struct question q) {
-    uint64_t state[YWS_STATE], before[YWS_STATE], record[YWS_RECORD], refusal[YWS_REFUSAL], again[YWS_REFUSAL];
-    say_returned(yws_sheet_open(q.bytes, q.length, state));
+    struct yws_reader reader, before;
+    uint64_t record[YWS_LEN_RECORD], refusal[YWS_LEN_REFUSAL], again[YWS_LEN_REFUSAL];
+    say_returned(yws_sheet_open(q.bytes, q.length, &reader));
     for (;;) {
         memset(record, UNTOUCHED, sizeof record);
         memset(refusal, UNTOUCHED, sizeof refusal);
-        memcpy(before, state, sizeof state);
-        uint16_t number = yws_sheet_next(q.bytes, q.length, state, record, refusal);
+        before = reader;
+        uint16_t number = yws_sheet_next(q.bytes, q.length, &reader, record, refusal);
         say_returned(number);
-        say_numbers(refusal, YWS_REFUSAL);
-        say_numbers(record, YWS_RECORD);
-        if (number == 0) {
-            say_state(state);
+        say_numbers(refusal, YWS_LEN_REFUSAL);
+        say_numbers(record, YWS_LEN_RECORD);
+        if (number == YWS_OK) {
+            say_state(reader.state);
             continue;
         }
-        int same = memcmp(before, state, sizeof state) == 0;
+        int same = memcmp(&before, &reader, sizeof reader) == 0;
         memset(again, UNTOUCHED, sizeof again);
-        same = same && yws_sheet_next(q.bytes, q.length, state, record, again) == number;
-        same = same && memcmp(before, state, sizeof state) == 0 && memcmp(refusal, again, sizeof again) == 0;
+        same = same && yws_sheet_next(q.bytes, q.length, &reader, record, again) == number;
+        same = same && memcmp(&before, &reader, sizeof reader) == 0 && memcmp(refusal, again, sizeof again) == 0;
         say_byte((unsigned) same);
         return;
     }
@@ -187,29 +188,30 @@ static void sheet_records(struct question q) {
 
 /* One call of the reader on a state that is handed in, whoever made it. */
 static void sheet_next(struct question q) {
-    uint64_t state[YWS_STATE], record[YWS_RECORD], refusal[YWS_REFUSAL];
-    for (int i = 0; i < YWS_STATE; i++) state[i] = take_number(&q, 8);
+    struct yws_reader reader;
+    uint64_t record[YWS_LEN_RECORD], refusal[YWS_LEN_REFUSAL];
+    for (int i = 0; i < YWS_LEN_STATE; i++) reader.state[i] = take_number(&q, 8);
     memset(record, UNTOUCHED, sizeof record);
     memset(refusal, UNTOUCHED, sizeof refusal);
-    uint16_t number = yws_sheet_next(q.bytes, q.length, state, record, refusal);
+    uint16_t number = yws_sheet_next(q.bytes, q.length, &reader, record, refusal);
     say_returned(number);
-    say_numbers(refusal, YWS_REFUSAL);
-    say_numbers(record, YWS_RECORD);
-    if (number == 0)
-        say_state(state);
+    say_numbers(refusal, YWS_LEN_REFUSAL);
+    say_numbers(record, YWS_LEN_RECORD);
+    if (number == YWS_OK)
+        say_state(reader.state);
     else
-        say_numbers(state, YWS_STATE);
+        say_numbers(reader.state, YWS_LEN_STATE);
 }
 
 /* A writer's room, its state and a copy of both, to see what a refusal left alone. */
-struct writer {
+struct lent_writer {
     uint8_t *out;
     size_t room;
-    uint64_t state[YWS_STATE], state_before[YWS_STATE];
+    struct yws_writer state, state_before;
     uint8_t before[LENT_MOST];
 };
 
-static struct writer writer;
+static struct lent_writer writer;
 
 static void writer_lend(size_t room) {
     if (room > LENT_MOST) stop("too much room asked for");
@@ -221,34 +223,34 @@ static void writer_lend(size_t room) {
 /* Where opening is refused, the calls after it are put to a state that no call gave. */
 static int writer_open(size_t room) {
     writer_lend(room);
-    memset(writer.state, UNTOUCHED, sizeof writer.state);
-    uint16_t number = yws_writer_open(writer.out, room, writer.state);
+    memset(&writer.state, UNTOUCHED, sizeof writer.state);
+    uint16_t number = yws_writer_open(writer.out, room, &writer.state);
     say_returned(number);
-    if (number != 0) say_byte(all_untouched(writer.out, room) && all_untouched((uint8_t *) writer.state, sizeof writer.state));
-    return number == 0;
+    if (number != YWS_OK) say_byte(all_untouched(writer.out, room) && all_untouched((uint8_t *) &writer.state, sizeof writer.state));
+    return number == YWS_OK;
 }
 
 static void writer_remember(void) {
     memcpy(writer.before, writer.out, writer.room);
-    memcpy(writer.state_before, writer.state, sizeof writer.state);
+    writer.state_before = writer.state;
 }
 
 /* A call's number, and the place after it or whether a refusal left all as it was. */
 static void writer_say(uint16_t number, uint64_t own) {
     say_returned(number);
     say_numbers(&own, 1);
-    if (number == 0)
-        say_state(writer.state);
+    if (number == YWS_OK)
+        say_state(writer.state.state);
     else
         say_byte(memcmp(writer.before, writer.out, writer.room) == 0 &&
-                 memcmp(writer.state_before, writer.state, sizeof writer.state) == 0);
+                 memcmp(&writer.state_before, &writer.state, sizeof writer.state) == 0);
 }
 
-static uint16_t writer_put(const uint64_t record[YWS_RECORD], const uint8_t *lent, size_t length) {
+static uint16_t writer_put(const uint64_t record[YWS_LEN_RECORD], const uint8_t *lent, size_t length) {
     uint64_t own;
     memset(&own, UNTOUCHED, sizeof own);
     writer_remember();
-    uint16_t number = yws_writer_put(writer.out, writer.room, writer.state, record, lent, length, &own);
+    uint16_t number = yws_writer_put(writer.out, writer.room, &writer.state, record, lent, length, &own);
     writer_say(number, own);
     return number;
 }
@@ -257,7 +259,7 @@ static void writer_close_once(void) {
     uint64_t own;
     memset(&own, UNTOUCHED, sizeof own);
     writer_remember();
-    uint16_t number = yws_writer_close(writer.out, writer.room, writer.state, &own);
+    uint16_t number = yws_writer_close(writer.out, writer.room, &writer.state, &own);
     writer_say(number, own);
 }
 
@@ -266,29 +268,30 @@ static void writer_close(int opened) {
     writer_close_once();
     writer_close_once();
     if (!opened) return;
-    size_t length = writer.state[0];
+    size_t length = writer.state.state[YWS_STATE_AT];
     if (length > writer.room) stop("the place is past the room");
-    say_numbers(writer.state, 1);
+    say_numbers(writer.state.state + YWS_STATE_AT, 1);
     say(writer.out, length);
     say_byte((unsigned) all_untouched(writer.out + length, writer.room - length));
 }
 
 /* The records of a sheet, as far as it is taken, put one by one. */
 static void sheet_rewrite(struct question q) {
-    uint64_t state[YWS_STATE], record[YWS_RECORD], refusal[YWS_REFUSAL];
+    struct yws_reader reader;
+    uint64_t record[YWS_LEN_RECORD], refusal[YWS_LEN_REFUSAL];
     int opened = writer_open(take_number(&q, 4));
-    yws_sheet_open(q.bytes, q.length, state);
-    while (yws_sheet_next(q.bytes, q.length, state, record, refusal) == 0)
-        if (writer_put(record, q.bytes, q.length) != 0) break;
+    yws_sheet_open(q.bytes, q.length, &reader);
+    while (yws_sheet_next(q.bytes, q.length, &reader, record, refusal) == YWS_OK)
+        if (writer_put(record, q.bytes, q.length) != YWS_OK) break;
     writer_close(opened);
 }
 
 /* Records given as numbers with the bytes of their texts, all of them put, whatever is refused. */
 static void puts_in_turn(struct question q) {
-    uint64_t record[YWS_RECORD];
+    uint64_t record[YWS_LEN_RECORD];
     int opened = writer_open(take_number(&q, 4));
     while (q.length > 0) {
-        for (int i = 0; i < YWS_RECORD; i++) record[i] = take_number(&q, 8);
+        for (int i = 0; i < YWS_LEN_RECORD; i++) record[i] = take_number(&q, 8);
         size_t length = take_number(&q, 2);
         uint8_t *lent = text_end - length;
         memcpy(lent, take(&q, length), length);
@@ -299,10 +302,10 @@ static void puts_in_turn(struct question q) {
 
 /* A record put, and the end, by a writer whose state is handed in, whoever made it; then the whole buffer. */
 static void put_and_close(struct question q) {
-    uint64_t record[YWS_RECORD];
+    uint64_t record[YWS_LEN_RECORD];
     writer_lend(take_number(&q, 4));
-    for (int i = 0; i < YWS_STATE; i++) writer.state[i] = take_number(&q, 8);
-    for (int i = 0; i < YWS_RECORD; i++) record[i] = take_number(&q, 8);
+    for (int i = 0; i < YWS_LEN_STATE; i++) writer.state.state[i] = take_number(&q, 8);
+    for (int i = 0; i < YWS_LEN_RECORD; i++) record[i] = take_number(&q, 8);
     writer_put(record, q.bytes, q.length);
     writer_close_once();
     say(writer.out, writer.room);

@@ -38,14 +38,14 @@ static int all_zero(const uint64_t *numbers, size_t count) {
 }
 
 static void codes(const uint8_t *bytes, size_t length) {
-    uint64_t numbers[YWS_USAGE], place;
+    uint64_t numbers[YWS_LEN_USAGE], place;
     memset(numbers, UNTOUCHED, sizeof numbers);
     uint16_t number = yws_usage_read(bytes, length, numbers, &place);
     hold(number <= 9 && place <= 16, "usage code: no such refusal");
     if (number == 0) {
-        uint8_t code[16];
+        uint8_t code[YWS_LEN_USAGE_CODE];
         hold(place == 0 && length == 16, "usage code: taken with a place or a length");
-        hold(all_zero(numbers + USAGE_LEFT, YWS_USAGE - USAGE_LEFT), "usage code: what is left over");
+        hold(all_zero(numbers + USAGE_LEFT, YWS_LEN_USAGE - USAGE_LEFT), "usage code: what is left over");
         hold(yws_usage_write(numbers, code) == 0 && memcmp(code, bytes, 16) == 0, "usage code: not written back");
         taken++;
     } else {
@@ -55,10 +55,10 @@ static void codes(const uint8_t *bytes, size_t length) {
     number = yws_supplement_read(bytes, length, numbers, &place);
     hold(number <= 9 && place <= 8, "supplementary code: no such refusal");
     if (number == 0) {
-        uint8_t code[8];
+        uint8_t code[YWS_LEN_SUPPLEMENT_CODE];
         hold(place == 0 && length == 8, "supplementary code: taken with a place or a length");
         hold(yws_supplement_write(numbers, code) == 0 && memcmp(code, bytes, 8) == 0, "supplementary code: not written back");
-        hold(all_untouched((uint8_t *) (numbers + YWS_SUPPLEMENT), sizeof numbers - 8 * YWS_SUPPLEMENT), "supplementary code: past its numbers");
+        hold(all_untouched((uint8_t *) (numbers + YWS_LEN_SUPPLEMENT), sizeof numbers - 8 * YWS_LEN_SUPPLEMENT), "supplementary code: past its numbers");
         taken++;
     } else {
         hold(all_untouched((uint8_t *) numbers, sizeof numbers), "supplementary code: refused, yet numbers written");
@@ -66,8 +66,8 @@ static void codes(const uint8_t *bytes, size_t length) {
 }
 
 static void run(uint8_t issue, const uint8_t *bytes, size_t length) {
-    uint32_t days[YWS_DAYS];
-    uint64_t refusal[2], count;
+    uint32_t days[YWS_LEN_DAYS];
+    uint64_t refusal[YWS_LEN_RUN_REFUSAL], count;
     memset(days, UNTOUCHED, sizeof days);
     uint16_t number = yws_run_read(issue, bytes, length, days, refusal);
     if (number != 0) {
@@ -76,106 +76,112 @@ static void run(uint8_t issue, const uint8_t *bytes, size_t length) {
         return;
     }
     uint8_t *out = out_end - length;
-    hold(length <= YWS_RUN_MOST, "run: longer than any");
+    hold(length <= YWS_MOST_RUN, "run: longer than any");
     hold(yws_set_write(issue, days, out, length, &count) == 0 && 8 * count == length, "run: its set is written otherwise");
     hold(memcmp(out, bytes, length) == 0, "run: not written back");
     memset(out + 1, UNTOUCHED, length - 1);
     count = 77;
-    hold(yws_set_write(issue, days, out + 1, length - 1, &count) == YWS_ROOM && count == 77, "set: room");
+    hold(yws_set_write(issue, days, out + 1, length - 1, &count) == YWS_ERR_ROOM && count == 77, "set: room");
     hold(all_untouched(out + 1, length - 1), "set: no room, yet written");
     taken++;
 }
 
 static void sheet(const uint8_t *file, size_t length) {
-    static uint8_t before[YWS_FILE_MOST + 8];
-    uint64_t records = 77, refusal[YWS_REFUSAL], told[YWS_REFUSAL], state[YWS_STATE], old[YWS_STATE], own, writer[YWS_STATE];
-    uint64_t record[YWS_RECORD];
+    static uint8_t before[YWS_MOST_FILE + 8];
+    uint64_t records = 77, refusal[YWS_LEN_REFUSAL], told[YWS_LEN_REFUSAL], own, record[YWS_LEN_RECORD];
+    struct yws_reader reader, reader_before;
+    struct yws_writer writer = {{0}}, writer_before;
     uint16_t number = yws_sheet_check(file, length, &records, refusal);
     hold(number == 0 || (number >= 20 && number <= 32 && records == 77), "sheet: refused with a count or no such number");
-    hold(refusal[0] <= length, "sheet: a place outside the file");
-    size_t room = length < YWS_FILE_MOST ? length : YWS_FILE_MOST;
+    hold(refusal[YWS_REFUSAL_OFFSET] <= length, "sheet: a place outside the file");
+    size_t room = length < YWS_MOST_FILE ? length : YWS_MOST_FILE;
     uint8_t *out = out_end - room;
     memset(out, UNTOUCHED, room);
-    memset(writer, 0, sizeof writer);
-    uint16_t opened = yws_writer_open(out, room, writer);
-    hold(opened == 0 ? writer[1] == 1 : writer[0] == 0 && writer[1] == 0, "writer: its state after opening");
-    yws_sheet_open(file, length, state);
+    const uint64_t *written = &writer.state[YWS_STATE_AT], *writing = &writer.state[YWS_STATE_OPEN], *at = &reader.state[YWS_STATE_AT];
+    uint16_t opened = yws_writer_open(out, room, &writer);
+    hold(opened == YWS_OK ? *writing == YWS_STATE_OPEN_NOW : *written == 0 && *writing == YWS_STATE_OPEN_NEVER, "writer: its state after opening");
+    yws_sheet_open(file, length, &reader);
     uint64_t read = 0;
     for (;;) {
-        memcpy(old, state, sizeof old);
-        uint16_t next = yws_sheet_next(file, length, state, record, told);
+        reader_before = reader;
+        uint16_t next = yws_sheet_next(file, length, &reader, record, told);
         if (next != 0) {
             hold(next == (number == 0 ? YWS_END : number), "sheet: the reader and the check differ");
             hold(memcmp(told, refusal, sizeof told) == 0, "sheet: their places differ");
-            hold(memcmp(old, state, sizeof old) == 0, "sheet: a refusal moved the reader");
+            hold(memcmp(&reader_before, &reader, sizeof reader) == 0, "sheet: a refusal moved the reader");
             break;
         }
         read++;
-        hold(state[0] > old[0] && state[0] < length, "sheet: the place does not rise");
-        hold(all_zero(state + STATE_LEFT, YWS_STATE - STATE_LEFT), "sheet: what is left over of the reader's state");
+        hold(*at > reader_before.state[YWS_STATE_AT] && *at < length, "sheet: the place does not rise");
+        hold(all_zero(reader.state + STATE_LEFT, YWS_LEN_STATE - STATE_LEFT), "sheet: what is left over of the reader's state");
         /* A file cut short may leave too little room for the closing byte, then the record is refused for that and nothing is written. */
         memcpy(before, out, room);
-        memcpy(old, writer, sizeof old);
-        uint16_t put = yws_writer_put(out, room, writer, record, file, length, &own);
+        writer_before = writer;
+        uint16_t put = yws_writer_put(out, room, &writer, record, file, length, &own);
         if (put != 0) {
-            hold(number != 0 && put == (opened == 0 ? YWS_ROOM : YWS_RECORD_REFUSED), "sheet: a record that was read cannot be put");
-            hold(memcmp(before, out, room) == 0 && memcmp(old, writer, sizeof old) == 0, "sheet: a refused record was written");
+            hold(number != 0 && put == (opened == 0 ? YWS_ERR_ROOM : YWS_ERR_RECORD), "sheet: a record that was read cannot be put");
+            hold(memcmp(before, out, room) == 0 && memcmp(&writer_before, &writer, sizeof writer) == 0, "sheet: a refused record was written");
             return;
         }
-        hold(writer[0] == state[0] && memcmp(out, file, writer[0]) == 0, "sheet: a record is written otherwise");
-        hold(all_zero(writer + STATE_LEFT, YWS_STATE - STATE_LEFT), "sheet: what is left over of the writer's state");
+        hold(*written == *at && memcmp(out, file, *written) == 0, "sheet: a record is written otherwise");
+        hold(all_zero(writer.state + STATE_LEFT, YWS_LEN_STATE - STATE_LEFT), "sheet: what is left over of the writer's state");
     }
     if (number != 0) return;
     hold(records == read + 1, "sheet: the count of records");
-    hold(yws_writer_close(out, room, writer, &own) == 0 && writer[0] == length, "sheet: not closed");
+    hold(yws_writer_close(out, room, &writer, &own) == YWS_OK && *written == length, "sheet: not closed");
     hold(memcmp(out, file, length) == 0, "sheet: not written back");
-    hold(yws_writer_close(out, room, writer, &own) == YWS_RECORD_REFUSED && own == YWS_ORDER, "sheet: closed twice");
+    hold(yws_writer_close(out, room, &writer, &own) == YWS_ERR_RECORD && own == YWS_ERR_ORDER, "sheet: closed twice");
     sheets_taken++;
 }
 
 /* Bytes of chance as a state that no call gave: a call on it returns one of few numbers, and a refusal leaves all as it was. */
 static void states(const uint8_t *file, size_t length) {
-    uint64_t made[YWS_STATE] = {0}, state[YWS_STATE], record[YWS_RECORD], refusal[YWS_REFUSAL], own;
-    for (size_t i = 0; i < 2 * YWS_STATE && i < length; i++) made[i / 2] = made[i / 2] << 8 | file[length - 1 - i];
+    uint64_t made[YWS_LEN_STATE] = {0}, record[YWS_LEN_RECORD], refusal[YWS_LEN_REFUSAL], own;
+    uint64_t *at = &made[YWS_STATE_AT], *open = &made[YWS_STATE_OPEN];
+    struct yws_reader reader;
+    struct yws_writer writer;
+    for (size_t i = 0; i < 2 * YWS_LEN_STATE && i < length; i++) made[i / 2] = made[i / 2] << 8 | file[length - 1 - i];
     for (uint64_t second = 0; second < 3; second++) {
-        if (second < 2) made[1] = second; /* none, one that is open, and then any */
-        memcpy(state, made, sizeof state);
-        uint16_t number = yws_sheet_next(file, length, state, record, refusal);
+        if (second < 2) *open = second; /* none, one that is open, and then any */
+        memcpy(reader.state, made, sizeof made);
+        uint16_t number = yws_sheet_next(file, length, &reader, record, refusal);
         hold(number == 0 || number == YWS_END || (number >= 20 && number <= 32), "state: no such number");
-        hold(number == 0 || memcmp(state, made, sizeof state) == 0, "state: a refusal moved the reader");
-        hold(number != YWS_END || (made[1] == 1 && made[0] < length && file[made[0]] == 0x1a), "state: the end, and no 1Ah");
-        hold(made[1] != 0 || (number == YWS_ORDER && refusal[0] == made[0]), "state: read, yet never opened");
+        hold(number == 0 || memcmp(reader.state, made, sizeof made) == 0, "state: a refusal moved the reader");
+        hold(number != YWS_END || (*open == YWS_STATE_OPEN_NOW && *at < length && file[*at] == 0x1a), "state: the end, and no 1Ah");
+        hold(*open != YWS_STATE_OPEN_NEVER || (number == YWS_ERR_ORDER && refusal[YWS_REFUSAL_OFFSET] == *at), "state: read, yet never opened");
         uint8_t *out = out_end - 300;
         memset(out, UNTOUCHED, 300);
-        memcpy(state, made, sizeof state);
+        memcpy(writer.state, made, sizeof made);
         memset(record, 0, sizeof record);
-        record[0] = 1;
-        number = yws_writer_put(out, 300, state, record, file, length, &own);
-        hold(made[1] == 1 || (number == YWS_RECORD_REFUSED && own == YWS_ORDER), "state: put, yet not open");
-        hold(number == 0 || memcmp(state, made, sizeof state) == 0, "state: a refusal moved the writer");
+        record[YWS_ANY_RECORD] = YWS_RECORD_CLINIC;
+        number = yws_writer_put(out, 300, &writer, record, file, length, &own);
+        hold(*open == YWS_STATE_OPEN_NOW || (number == YWS_ERR_RECORD && own == YWS_ERR_ORDER), "state: put, yet not open");
+        hold(number == 0 || memcmp(writer.state, made, sizeof made) == 0, "state: a refusal moved the writer");
         hold(number == 0 || all_untouched(out, 300), "state: refused, yet written");
-        memcpy(state, made, sizeof state);
-        number = yws_writer_close(out, 300, state, &own);
-        hold(made[1] == 1 || (number == YWS_RECORD_REFUSED && own == YWS_ORDER), "state: closed, yet not open");
-        hold(number == 0 || memcmp(state, made, sizeof state) == 0, "state: a refusal closed the writer");
+        memcpy(writer.state, made, sizeof made);
+        number = yws_writer_close(out, 300, &writer, &own);
+        hold(*open == YWS_STATE_OPEN_NOW || (number == YWS_ERR_RECORD && own == YWS_ERR_ORDER), "state: closed, yet not open");
+        hold(number == 0 || memcmp(writer.state, made, sizeof made) == 0, "state: a refusal closed the writer");
     }
 }
 
 /* Numbers of chance as a code or a record: whatever is written must be read as the same. */
 static void numbers(const uint8_t *bytes, size_t length) {
-    uint64_t n[YWS_RECORD] = {0}, back[YWS_RECORD], place;
-    uint8_t code[16];
-    for (size_t i = 0; i < YWS_RECORD && i < length; i++) n[i] = bytes[i];
+    uint64_t n[YWS_LEN_RECORD] = {0}, back[YWS_LEN_RECORD], place;
+    uint8_t code[YWS_LEN_USAGE_CODE];
+    for (size_t i = 0; i < YWS_LEN_RECORD && i < length; i++) n[i] = bytes[i];
     if (yws_usage_write(n, code) == 0)
         hold(yws_usage_read(code, 16, back, &place) == 0 && memcmp(n, back, 8 * USAGE_LEFT) == 0, "numbers: not read back as a usage code");
     if (yws_supplement_write(n, code) == 0)
-        hold(yws_supplement_read(code, 8, back, &place) == 0 && memcmp(n, back, 8 * YWS_SUPPLEMENT) == 0, "numbers: not read back as a supplement");
-    uint64_t state[YWS_STATE], own;
+        hold(yws_supplement_read(code, 8, back, &place) == 0 && memcmp(n, back, 8 * YWS_LEN_SUPPLEMENT) == 0, "numbers: not read back as a supplement");
+    struct yws_writer writer;
+    const uint64_t *written = &writer.state[YWS_STATE_AT];
+    uint64_t own;
     uint8_t *out = out_end - 300;
-    hold(yws_writer_open(out, 300, state) == 0 && state[0] == 8, "writer: not opened");
-    uint16_t put = yws_writer_put(out, 300, state, n, bytes, length, &own);
-    hold(put == 0 || put == YWS_ROOM || put == YWS_RECORD_REFUSED, "writer: no such refusal");
-    hold(put == 0 ? state[0] > 8 && state[0] < 300 : state[0] == 8, "writer: its place");
+    hold(yws_writer_open(out, 300, &writer) == YWS_OK && *written == 8, "writer: not opened");
+    uint16_t put = yws_writer_put(out, 300, &writer, n, bytes, length, &own);
+    hold(put == 0 || put == YWS_ERR_ROOM || put == YWS_ERR_RECORD, "writer: no such refusal");
+    hold(put == 0 ? *written > 8 && *written < 300 : *written == 8, "writer: its place");
 }
 
 int LLVMFuzzerTestOneInput(const uint8_t *data, size_t size);
