@@ -1,7 +1,7 @@
 /* Checks a sheet on standard input and prints what its labels say: for each RP its number and how its drugs are taken, then each drug's name,
- * amount and unit; or the refusal. Texts come out as they stand in the sheet, in Shift_JIS.
+ * amount and unit; or the refusal, with what its numbers mean. Texts come out as they stand in the sheet, in Shift_JIS.
  *
- *     cc -I include examples/check.c target/staticlib/libcapi.a -o check && ./check < samples/sheet.txt
+ *     cc -I include examples/check.c messages/yawsimbel_messages.c target/staticlib/libcapi.a -o check && ./check < samples/sheet.txt
  */
 #include "yawsimbel.h"
 
@@ -48,7 +48,8 @@ static void refused(uint16_t number, const uint64_t *refusal) {
     printf("refused %u %s %" PRIu64, number, number <= YWS_ERR_VERSION ? "offset" : "record", refusal[YWS_REFUSAL_OFFSET]);
     if (refusal[YWS_REFUSAL_FIELD] != 0) printf(" field %" PRIu64, refusal[YWS_REFUSAL_FIELD]);
     if (number == YWS_ERR_CODE) printf(" code %" PRIu64 " place %" PRIu64, refusal[YWS_REFUSAL_CODE], refusal[YWS_REFUSAL_PLACE]);
-    printf("\n");
+    printf("\n%s\n", yws_message(number));
+    if (number == YWS_ERR_CODE) printf("%s\n", yws_message((uint16_t) refusal[YWS_REFUSAL_CODE]));
 }
 
 int main(void) {

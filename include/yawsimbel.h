@@ -41,8 +41,7 @@
  *             printf("ok %lu\n", (unsigned long) records);
  *             return 0;
  *         }
- *         unsigned long at = (unsigned long) refusal[YWS_REFUSAL_OFFSET], field = (unsigned long) refusal[YWS_REFUSAL_FIELD];
- *         printf("refused %u at byte %lu, field %lu\n", number, at, field);
+ *         printf("refused %u at byte %lu: %s\n", number, (unsigned long) refusal[YWS_REFUSAL_OFFSET], yws_message(number));
  *         return 1;
  *     }
  */
@@ -597,6 +596,16 @@ enum yws_date_style {
 /* Makes a date of a western year: into `numbers` its four numbers, as record 51 has them from YWS_ISSUE_DATE on; into `text` its characters,
  * eight in western style, in era style seven and a 0. YWS_ERR_VALUE where there is no such day or year. */
 uint16_t yws_date_make(uint16_t year, uint8_t month, uint8_t day, uint8_t style, uint64_t numbers[YWS_LEN_DATE], uint8_t text[YWS_LEN_DATE_TEXT]);
+
+/* ---- Words. These stand in messages/yawsimbel_messages.c, to be compiled with your program, and not in libcapi.a, in which all is proved. */
+
+/* What a number that a function returned means, in a line of English (ASCII) or of Japanese (UTF-8, unlike a sheet), with no end of line; an empty text,
+ * never NULL, for a number that no function returns. For YWS_ERR_CODE and YWS_ERR_RECORD ask again with the number that follows. */
+const char *yws_message(uint16_t number);
+const char *yws_message_ja(uint16_t number);
+
+/* The YWS_VERSION of the header that yawsimbel_messages.c was compiled with: other than yours, where the two come from different deliveries. */
+const char *yws_version(void);
 
 #ifdef __cplusplus
 }
