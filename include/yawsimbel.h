@@ -165,8 +165,8 @@ enum yws_usage_detail {
     /* oral */
     YWS_USAGE_DETAIL_SWALLOWED = 0,
     YWS_USAGE_DETAIL_UNDER_TONGUE = 1,
-    YWS_USAGE_DETAIL_BUCCAL = 2,       /* between gum and cheek */
-    YWS_USAGE_DETAIL_IN_MOUTH = 3,     /* spread on the inside of the mouth */
+    YWS_USAGE_DETAIL_BUCCAL = 2,   /* between gum and cheek */
+    YWS_USAGE_DETAIL_IN_MOUTH = 3, /* spread on the inside of the mouth */
     /* external: the letter that the value stands for */
     YWS_USAGE_DETAIL_PATCH = 10,           /* A stuck on */
     YWS_USAGE_DETAIL_SPREAD = 11,          /* B spread on */
@@ -227,9 +227,9 @@ enum yws_usage_event_group {
 };
 
 enum yws_usage_condition {
-    YWS_USAGE_CONDITION_MAY = 0,   /* at the event, if wanted; with any other the drug must be used */
-    YWS_USAGE_CONDITION_MUST = 2,  /* at the event */
-    /* when something measured is at, below, or at least a number, which the code does not hold: the sheet says it elsewhere, in words */
+    YWS_USAGE_CONDITION_MAY = 0,  /* at the event, if wanted; with any other the drug must be used */
+    YWS_USAGE_CONDITION_MUST = 2, /* at the event */
+    /* when something measured is at, below, or at least a number, which the code does not hold: it is written elsewhere, each system in its own way */
     YWS_USAGE_CONDITION_EQUAL = 4,
     YWS_USAGE_CONDITION_BELOW = 5,
     YWS_USAGE_CONDITION_AT_LEAST = 7
@@ -355,42 +355,42 @@ uint16_t yws_set_write(uint8_t issue, const uint32_t days[YWS_LEN_DAYS], uint8_t
  */
 
 enum yws_record {
-    YWS_RECORD_CLINIC = 1,           /* needed */
+    YWS_RECORD_CLINIC = 1,       /* needed */
     YWS_RECORD_ADDRESS = 2,
     YWS_RECORD_PHONE = 3,
     YWS_RECORD_DEPARTMENT = 4,
-    YWS_RECORD_DOCTOR = 5,           /* needed */
-    YWS_RECORD_PATIENT = 11,         /* needed */
-    YWS_RECORD_SEX = 12,             /* needed */
-    YWS_RECORD_BIRTH = 13,           /* needed */
-    YWS_RECORD_SHARE = 14,           /* what the patient pays, by age */
+    YWS_RECORD_DOCTOR = 5,       /* needed */
+    YWS_RECORD_PATIENT = 11,     /* needed */
+    YWS_RECORD_SEX = 12,         /* needed */
+    YWS_RECORD_BIRTH = 13,       /* needed */
+    YWS_RECORD_SHARE = 14,       /* what the patient pays, by age */
     YWS_RECORD_INSURANCE = 21,
-    YWS_RECORD_INSURER = 22,         /* needed */
-    YWS_RECORD_INSURED = 23,         /* needed */
+    YWS_RECORD_INSURER = 22,     /* needed */
+    YWS_RECORD_INSURED = 23,     /* needed */
     YWS_RECORD_RATES = 24,
-    YWS_RECORD_DUTY = 25,            /* illness or injury on duty */
-    YWS_RECORD_PUBLIC_1 = 27,        /* paid from public funds: the first, second, third, and a special one */
+    YWS_RECORD_DUTY = 25,        /* illness or injury on duty */
+    YWS_RECORD_PUBLIC_1 = 27,    /* paid from public funds: the first, second, third, and a special one */
     YWS_RECORD_PUBLIC_2 = 28,
     YWS_RECORD_PUBLIC_3 = 29,
     YWS_RECORD_PUBLIC_SPECIAL = 30,
-    YWS_RECORD_CLAIM = 31,           /* kind of claim */
-    YWS_RECORD_ISSUE = 51,           /* needed; typed */
+    YWS_RECORD_CLAIM = 31,       /* kind of claim */
+    YWS_RECORD_ISSUE = 51,       /* needed; typed */
     YWS_RECORD_EXPIRY = 52,
     YWS_RECORD_NARCOTIC = 61,
-    YWS_RECORD_LEFTOVERS = 62,       /* what to do about drugs left over */
-    YWS_RECORD_SPLIT = 63,           /* split dispensing */
-    YWS_RECORD_NOTE = 81,            /* may repeat */
+    YWS_RECORD_LEFTOVERS = 62,   /* what to do about drugs left over */
+    YWS_RECORD_SPLIT = 63,       /* split dispensing */
+    YWS_RECORD_NOTE = 81,        /* may repeat */
     YWS_RECORD_SHEET_ID = 82,
-    YWS_RECORD_RP = 101,             /* needed; typed */
+    YWS_RECORD_RP = 101,         /* needed; typed */
     YWS_RECORD_SPLIT_QUANTITY = 102,
-    YWS_RECORD_DIRECTIONS = 111,     /* needed; typed */
-    YWS_RECORD_EXTRA = 181,          /* more about the directions; may repeat; typed */
-    YWS_RECORD_DRUG = 201,           /* needed, may repeat; typed */
-    YWS_RECORD_UNIT = 211,           /* conversion of units */
-    YWS_RECORD_UNEQUAL = 221,        /* unequal doses */
-    YWS_RECORD_COVERAGE = 231,       /* which public funds pay it */
-    YWS_RECORD_DOSE = 241,           /* one dose */
-    YWS_RECORD_DRUG_NOTE = 281       /* may repeat */
+    YWS_RECORD_DIRECTIONS = 111, /* needed; typed */
+    YWS_RECORD_EXTRA = 181,      /* more about the directions; may repeat; typed */
+    YWS_RECORD_DRUG = 201,       /* needed, may repeat; typed */
+    YWS_RECORD_UNIT = 211,       /* conversion of units */
+    YWS_RECORD_UNEQUAL = 221,    /* unequal doses */
+    YWS_RECORD_COVERAGE = 231,   /* which public funds pay it */
+    YWS_RECORD_DOSE = 241,       /* one dose */
+    YWS_RECORD_DRUG_NOTE = 281   /* may repeat */
 };
 
 /* A record's array: its number, then its fields by the names below, then 0s. An empty number is 0. A text is two numbers, the offset of its first
@@ -401,14 +401,14 @@ enum {
 
     /* 51, the issue date: the four numbers of a date from YWS_ISSUE_DATE on */
     YWS_ISSUE_DATE = 1,
-    YWS_ISSUE_ERA = 1,   /* YWS_DATE_ERA_... */
-    YWS_ISSUE_YEAR = 2,  /* western, in every style */
+    YWS_ISSUE_ERA = 1,  /* YWS_DATE_ERA_... */
+    YWS_ISSUE_YEAR = 2, /* western, in every style */
     YWS_ISSUE_MONTH = 3,
     YWS_ISSUE_DAY = 4,
 
     /* 101, an RP: drugs that are taken in one way */
-    YWS_RP_NUMBER = 1, /* 1 to 999 */
-    YWS_RP_FORM = 2,   /* 1 to 99 */
+    YWS_RP_NUMBER = 1,    /* 1 to 999 */
+    YWS_RP_FORM = 2,      /* 1 to 99 */
     YWS_RP_NAME_FROM = 3, /* the form in words: at most 80 bytes, may be empty */
     YWS_RP_NAME_TO = 4,
     YWS_RP_QUANTITY = 5, /* 1 to 999: days for an oral form, times for one as needed, days or times else */
@@ -423,8 +423,8 @@ enum {
 
     /* 181, more about the directions of the RP */
     YWS_EXTRA_RP = 1,
-    YWS_EXTRA_SERIAL = 2, /* 1, 2, 3 .. in each RP */
-    YWS_EXTRA_KIND = 3,   /* 1 to 99; 0 for empty */
+    YWS_EXTRA_SERIAL = 2,    /* 1, 2, 3 .. in each RP */
+    YWS_EXTRA_KIND = 3,      /* 1 to 99; 0 for empty */
     YWS_EXTRA_TEXT_FROM = 4, /* 1 to 100 bytes */
     YWS_EXTRA_TEXT_TO = 5,
     YWS_EXTRA_SITE_FROM = 6, /* three digits or capitals with YWS_EXTRA_KIND_SITE_CODE, else empty */
@@ -468,16 +468,16 @@ enum yws_directions_kind {
 };
 
 enum yws_extra_kind { /* 10 to 99 are taken and not yet given out */
-    YWS_EXTRA_KIND_UNKNOWN = 0,  /* left empty */
+    YWS_EXTRA_KIND_UNKNOWN = 0,   /* left empty */
     YWS_EXTRA_KIND_TAPERING = 1,
-    YWS_EXTRA_KIND_ONE_BAG = 2,  /* all of one time of day in one bag */
+    YWS_EXTRA_KIND_ONE_BAG = 2,   /* all of one time of day in one bag */
     YWS_EXTRA_KIND_ALTERNATE = 3, /* every other day */
     YWS_EXTRA_KIND_CRUSHED = 4,
-    YWS_EXTRA_KIND_MORE = 5,     /* the directions, continued */
-    YWS_EXTRA_KIND_SITE = 6,     /* site of use in words */
-    YWS_EXTRA_KIND_DOSE = 7,     /* amount of one use */
-    YWS_EXTRA_KIND_CODE = 8,     /* a supplementary code, which must stand; with any other kind it must be empty */
-    YWS_EXTRA_KIND_SITE_CODE = 9 /* a site's code, in the same way */
+    YWS_EXTRA_KIND_MORE = 5,      /* the directions, continued */
+    YWS_EXTRA_KIND_SITE = 6,      /* site of use in words */
+    YWS_EXTRA_KIND_DOSE = 7,      /* amount of one use */
+    YWS_EXTRA_KIND_CODE = 8,      /* a supplementary code, which must stand; with any other kind it must be empty */
+    YWS_EXTRA_KIND_SITE_CODE = 9  /* a site's code, in the same way */
 };
 
 enum yws_drug_kind {
@@ -488,12 +488,12 @@ enum yws_drug_kind {
 };
 
 enum yws_drug_code_kind { /* 5 is refused */
-    YWS_DRUG_CODE_KIND_NONE = 1,    /* no code: it must be empty */
-    YWS_DRUG_CODE_KIND_CLAIM = 2,   /* code of the claims computer; it must stand */
+    YWS_DRUG_CODE_KIND_NONE = 1,     /* no code: it must be empty */
+    YWS_DRUG_CODE_KIND_CLAIM = 2,    /* code of the claims computer; it must stand */
     YWS_DRUG_CODE_KIND_MINISTRY = 3, /* the ministry's (price list) code; it must stand */
-    YWS_DRUG_CODE_KIND_YJ = 4,      /* it must stand */
-    YWS_DRUG_CODE_KIND_HOT = 6,     /* it must stand */
-    YWS_DRUG_CODE_KIND_GENERIC = 7  /* prescribed by generic name; the ministry's code of it may stand */
+    YWS_DRUG_CODE_KIND_YJ = 4,       /* it must stand */
+    YWS_DRUG_CODE_KIND_HOT = 6,      /* it must stand */
+    YWS_DRUG_CODE_KIND_GENERIC = 7   /* prescribed by generic name; the ministry's code of it may stand */
 };
 
 enum yws_drug_flag {
@@ -520,9 +520,9 @@ struct yws_writer {
 };
 
 enum {
-    YWS_STATE_AT = 0,   /* where it is: the offset of the reader's next record, or of its refusal; how many bytes the writer has written */
-    YWS_STATE_OPEN = 1, /* 1 while it is open; 21, 22 or 23 for a reader whose opening returned 20, 21 or 22; with any other number nothing is open */
-    YWS_STATE_BEFORE = 2 /* from here to 10, what the records before leave: the library's own; the others are left over */
+    YWS_STATE_AT = 0,  /* where it is: the offset of the reader's next record, or of its refusal; how many bytes the writer has written */
+    YWS_STATE_OPEN = 1 /* 1 while it is open; 21, 22 or 23 for a reader whose opening returned 20, 21 or 22; with any other number nothing is open */
+    /* 2 to 10 are what the records before leave, the library's own; the others are left over */
 };
 
 enum yws_state_open { YWS_STATE_OPEN_NEVER = 0, YWS_STATE_OPEN_NOW = 1 };
@@ -579,7 +579,7 @@ enum {
     YWS_DATE_DAY = 3
 };
 
-enum yws_date_era { /* the first character of a date of seven; its years 01 to 99 count from the one named here */
+enum yws_date_era { /* the first character of a date of seven; its years 01 to 99 count from the one named here. There is no 5 in JAHIS 17-108 Ver.1.4 */
     YWS_DATE_ERA_WESTERN = 0, /* no era: a date of eight characters */
     YWS_DATE_ERA_MEIJI = 1,   /* 1868 */
     YWS_DATE_ERA_TAISHO = 2,  /* 1912 */
@@ -588,9 +588,9 @@ enum yws_date_era { /* the first character of a date of seven; its years 01 to 9
 };
 
 enum yws_date_style {
-    YWS_DATE_STYLE_ANY = 0,     /* none named: as YWS_DATE_STYLE_ERA; so is any other number */
+    YWS_DATE_STYLE_ANY = 0, /* none named: as YWS_DATE_STYLE_ERA; so is any other number */
     YWS_DATE_STYLE_WESTERN = 1,
-    YWS_DATE_STYLE_ERA = 2      /* the latest era whose year 01 is not after the date; western style from 2088 */
+    YWS_DATE_STYLE_ERA = 2  /* the latest era whose year 01 is not after the date; western style from 2088 */
 };
 
 /* Makes a date of a western year: into `numbers` its four numbers, as record 51 has them from YWS_ISSUE_DATE on; into `text` its characters,

@@ -341,6 +341,114 @@ static void refusals(void) {
     IS(reader.state[YWS_STATE_OPEN], YWS_ERR_FRAME + 1);
 }
 
+static uint16_t code_result(const char *characters) {
+    uint64_t place;
+    return yws_usage_read((const uint8_t *) characters, strlen(characters), code, &place);
+}
+
+static uint16_t run_result(uint8_t issue, const char *characters) {
+    uint32_t days[YWS_LEN_DAYS];
+    uint64_t refusal[YWS_LEN_RUN_REFUSAL];
+    return yws_run_read(issue, (const uint8_t *) characters, strlen(characters), days, refusal);
+}
+
+/* The result of a sheet that has the needed records up to 23, then `lines`. */
+static uint16_t sheet_result(const char *lines) {
+    char file[256];
+    uint64_t refusal[YWS_LEN_REFUSAL], count;
+    snprintf(file, sizeof file, "JAHIS5\r\n1,A\r\n5,A\r\n11,B\r\n12,1\r\n13,1\r\n22,\r\n23,1\r\n%s\x1a", lines);
+    return yws_sheet_check((const uint8_t *) file, strlen(file), &count, refusal);
+}
+
+/* Each result by something that is refused for it: the numbers are document 01's. */
+static void results(void) {
+    static uint8_t longest[YWS_MOST_FILE + 1];
+    struct yws_reader reader = {{0}};
+    struct yws_writer writer = {{0}};
+    uint32_t none[YWS_LEN_DAYS] = {0};
+    uint64_t record[YWS_LEN_RECORD] = {0}, refusal[YWS_LEN_REFUSAL], own;
+    uint8_t out[16];
+    IS(code_result("101"), YWS_ERR_LENGTH);
+    IS(code_result("9013044400000000"), YWS_ERR_FIRST);
+    IS(code_result("1913044400000000"), YWS_ERR_DETAIL);
+    IS(code_result("1063044400000000"), YWS_ERR_TIMING);
+    IS(code_result("1013074400000000"), YWS_ERR_CHARACTER);
+    IS(code_result("1013044400000001"), YWS_ERR_UNUSED);
+    IS(code_result("1012044400000000"), YWS_ERR_COUNT);
+    IS(code_result("1050310000000000"), YWS_ERR_RULE);
+    IS(code_result("1033IMM000000000"), YWS_ERR_RISING);
+    IS(run_result(13, "D0AK0000"), YWS_ERR_ISSUE_MONTH);
+    IS(yws_set_write(1, none, out, sizeof out, &own), YWS_ERR_DAY_SET);
+    IS(run_result(1, "DCAKU000D1FU0000"), YWS_ERR_RUN);
+    IS(yws_sheet_open(longest, sizeof longest, &reader), YWS_ERR_TOO_LONG);
+    IS(yws_sheet_open(longest, sizeof longest - 1, &reader), YWS_ERR_FRAME);
+    IS(yws_sheet_open((const uint8_t *) "JAHIS4\r\n\x1a", 9, &reader), YWS_ERR_VERSION);
+    IS(sheet_result("500,A\r\n"), YWS_ERR_UNKNOWN);
+    IS(sheet_result("22,\r\n"), YWS_ERR_ORDER);
+    IS(sheet_result("51,20180903,\r\n"), YWS_ERR_FIELDS);
+    IS(sheet_result("24, A\r\n"), YWS_ERR_TEXT);
+    IS(sheet_result("51,20181303\r\n"), YWS_ERR_VALUE);
+    IS(sheet_result("51,\r\n"), YWS_ERR_PRESENT);
+    IS(sheet_result("51,20180903\r\n101,1,1,,1\r\n111,1,2,1012044400000000,W,\r\n"), YWS_ERR_CODE);
+    IS(sheet_result("51,20180903\r\n101,1,1,,1\r\n111,2,1,,W,\r\n"), YWS_ERR_COUNTER);
+    IS(sheet_result("51,20180903\r\n101,1,1,,1\r\n111,1,1,,W,\r\n181,1,1,8,A,V31.0NNN,\r\n"), YWS_ERR_SCHEDULE);
+    IS(sheet_result(""), YWS_ERR_MISSING);
+    IS(yws_writer_open(out, 3, &writer), YWS_ERR_ROOM);
+    IS(writer.state[YWS_STATE_OPEN], YWS_STATE_OPEN_NEVER);
+    IS(yws_writer_put(out, sizeof out, &writer, record, out, 0, &own), YWS_ERR_RECORD);
+    IS(own, YWS_ERR_ORDER);
+    memset(&reader, 0, sizeof reader);
+    IS(yws_sheet_next(out, 0, &reader, record, refusal), YWS_ERR_ORDER);
+}
+
+enum { MORE = 64, UNTOUCHED = 0xA5 }; /* an array longer than any, and what its bytes are before a call */
+
+/* How many things of a size a call has written into an array that is longer than any. */
+static size_t written(const void *array, size_t size) {
+    const uint8_t *bytes = array;
+    size_t count = MORE * size;
+    while (count > 0 && bytes[count - 1] == UNTOUCHED) count--;
+    return (count + size - 1) / size;
+}
+
+/* Each length is how much a call writes. */
+static void lengths(void) {
+    static const uint8_t month_days[] = {0, 31, 29, 31, 30, 31, 30, 31, 31, 30, 31, 30, 31};
+    struct { uint64_t numbers[MORE], other[MORE]; uint32_t masks[MORE]; uint8_t bytes[16 * MORE]; } lent;
+    uint32_t every_day[YWS_LEN_DAYS] = {0};
+    uint64_t one;
+    memset(&lent, UNTOUCHED, sizeof lent);
+    yws_usage_read((const uint8_t *) "1013044400000000", 16, lent.numbers, &one);
+    yws_usage_write(lent.numbers, lent.bytes);
+    IS(written(lent.numbers, 8), YWS_LEN_USAGE);
+    IS(written(lent.bytes, 1), YWS_LEN_USAGE_CODE);
+    memset(&lent, UNTOUCHED, sizeof lent);
+    yws_supplement_read((const uint8_t *) "I1100000", 8, lent.numbers, &one);
+    yws_supplement_write(lent.numbers, lent.bytes);
+    IS(written(lent.numbers, 8), YWS_LEN_SUPPLEMENT);
+    IS(written(lent.bytes, 1), YWS_LEN_SUPPLEMENT_CODE);
+    memset(&lent, UNTOUCHED, sizeof lent);
+    yws_run_read(1, (const uint8_t *) "D0AK0000", 8, lent.masks, lent.numbers);
+    IS(written(lent.masks, 4), YWS_LEN_DAYS);
+    IS(written(lent.numbers, 8), YWS_LEN_RUN_REFUSAL);
+    memset(&lent, UNTOUCHED, sizeof lent);
+    yws_date_make(2018, 9, 3, YWS_DATE_STYLE_WESTERN, lent.numbers, lent.bytes);
+    IS(written(lent.numbers, 8), YWS_LEN_DATE);
+    IS(written(lent.bytes, 1), YWS_LEN_DATE_TEXT);
+    memset(&lent, UNTOUCHED, sizeof lent);
+    yws_sheet_open((const uint8_t *) sheet, strlen(sheet), (struct yws_reader *) lent.numbers);
+    IS(written(lent.numbers, 8), YWS_LEN_STATE);
+    memset(lent.other, UNTOUCHED, sizeof lent.other);
+    yws_sheet_next((const uint8_t *) sheet, strlen(sheet), (struct yws_reader *) lent.numbers, lent.other, &lent.numbers[YWS_LEN_STATE]);
+    IS(written(lent.other, 8), YWS_LEN_RECORD);
+    IS(written(lent.numbers, 8), YWS_LEN_STATE + YWS_LEN_REFUSAL);
+    memset(&lent, UNTOUCHED, sizeof lent);
+    for (int month = 1; month < YWS_LEN_DAYS; month++) every_day[month] = (uint32_t) ((UINT64_C(1) << month_days[month]) - 1);
+    IS(yws_set_write(1, every_day, lent.bytes, YWS_MOST_RUN, &one), YWS_OK);
+    IS(8 * one, YWS_MOST_RUN);
+    IS(yws_set_write(1, every_day, lent.bytes, YWS_MOST_RUN - 1, &one), YWS_ERR_ROOM);
+}
+
 /* The records that have a name are those that the library knows. */
 static void record_numbers(void) {
     static const int known[] = {
@@ -363,6 +471,24 @@ static void record_numbers(void) {
     }
 }
 
+/* Values that the library takes or refuses without asking what they mean, in the order in which JAHIS 17-108 prints them. */
+static void printed(void) {
+    static const int form[] = {0, YWS_RP_FORM_ORAL, YWS_RP_FORM_AS_NEEDED, YWS_RP_FORM_EXTERNAL, YWS_RP_FORM_ORAL_DROPS, YWS_RP_FORM_INJECTION,
+                               YWS_RP_FORM_MATERIAL};
+    static const int kind[] = {YWS_EXTRA_KIND_UNKNOWN, YWS_EXTRA_KIND_TAPERING, YWS_EXTRA_KIND_ONE_BAG, YWS_EXTRA_KIND_ALTERNATE, YWS_EXTRA_KIND_CRUSHED,
+                               YWS_EXTRA_KIND_MORE,    YWS_EXTRA_KIND_SITE,     YWS_EXTRA_KIND_DOSE,    YWS_EXTRA_KIND_CODE,      YWS_EXTRA_KIND_SITE_CODE};
+    static const int drug[] = {YWS_DRUG_KIND_UNKNOWN, YWS_DRUG_KIND_MEDICINE, YWS_DRUG_KIND_MATERIAL, YWS_DRUG_KIND_UNINSURED};
+    static const int coded[] = {0, YWS_DRUG_CODE_KIND_NONE, YWS_DRUG_CODE_KIND_CLAIM, YWS_DRUG_CODE_KIND_MINISTRY, YWS_DRUG_CODE_KIND_YJ,
+                                5, YWS_DRUG_CODE_KIND_HOT, YWS_DRUG_CODE_KIND_GENERIC};
+    for (size_t i = 0; i < COUNT(form); i++) IS(form[i], i);
+    for (size_t i = 0; i < COUNT(kind); i++) IS(kind[i], i);
+    for (size_t i = 0; i < COUNT(drug); i++) IS(drug[i], i);
+    for (size_t i = 0; i < COUNT(coded); i++) IS(coded[i], i);
+    IS(YWS_RP_FORM_UNKNOWN, 9);
+    IS(YWS_DIRECTIONS_KIND_WORDS, 1);
+    IS(YWS_DRUG_FLAG_PRICE_UNIT, 1);
+}
+
 int main(void) {
     by_meals();
     by_hours();
@@ -375,7 +501,10 @@ int main(void) {
     dates();
     records();
     refusals();
+    results();
+    lengths();
     record_numbers();
+    printed();
     printf("%u names and values, %u passed\n", held, held - broken);
     return broken != 0;
 }
