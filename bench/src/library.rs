@@ -1,55 +1,13 @@
 //! The library, through its C interface.
 
-// The crate links the library; what is called here is the interface itself.
 use crate::seen::see;
-use yawsimbel as _;
-
-// Lengths of the arrays, as in `include/yawsimbel.h`.
-const USAGE: usize = 29;
-const SUPPLEMENT: usize = 22;
-const RECORD: usize = 40;
-const STATE: usize = 16;
-
-pub type Usage = [u64; USAGE];
-pub type Supplement = [u64; SUPPLEMENT];
-type Record = [u64; RECORD];
-type State = [u64; STATE];
-type Refusal = [u64; 4];
-
-const END: u16 = 65_535;
-
-extern "C" {
-    fn yws_usage_read(code: *const u8, length: usize, numbers: &mut Usage, place: &mut u64) -> u16;
-    fn yws_usage_write(numbers: &Usage, code: &mut [u8; 16]) -> u16;
-    fn yws_supplement_read(code: *const u8, length: usize, numbers: &mut Supplement, place: &mut u64) -> u16;
-    fn yws_supplement_write(numbers: &Supplement, code: &mut [u8; 8]) -> u16;
-    fn yws_sheet_check(file: *const u8, length: usize, records: &mut u64, refusal: &mut Refusal) -> u16;
-    fn yws_sheet_open(file: *const u8, length: usize, state: &mut State) -> u16;
-    fn yws_sheet_next(
-        file: *const u8,
-        length: usize,
-        state: &mut State,
-        record: &mut Record,
-        refusal: &mut Refusal,
-    ) -> u16;
-    fn yws_writer_open(out: *mut u8, room: usize, state: &mut State) -> u16;
-    fn yws_writer_put(
-        out: *mut u8,
-        room: usize,
-        state: &mut State,
-        record: &Record,
-        lent: *const u8,
-        length: usize,
-        own: &mut u64,
-    ) -> u16;
-    fn yws_writer_close(out: *mut u8, room: usize, state: &mut State, own: &mut u64) -> u16;
-}
+use yawsimbel_sys::*;
 
 /// How many lines a sheet has, or its refusal's number.
 pub fn check(file: &[u8]) -> Result<usize, u16> {
-    let (mut records, mut refusal) = (0, [0; 4]);
+    let (mut records, mut refusal) = (0, [0; REFUSAL]);
     // SAFETY: `file` is a slice of that length, the others are what the header asks for, and none overlaps another.
-    match unsafe { yws_sheet_check(file.as_ptr(), file.len(), &mut records, &mut refusal) } {
+    match unsafe { yws_sheet_check(file.as_ptr(), file.len() as u64, &mut records, &mut refusal) } {
         0 => Ok(records as usize),
         number => Err(number),
     }
@@ -57,13 +15,13 @@ pub fn check(file: &[u8]) -> Result<usize, u16> {
 
 /// Hands every record of a sheet to `take`; how many lines it has, or its refusal's number.
 fn each(file: &[u8], mut take: impl FnMut(&Record)) -> Result<usize, u16> {
-    let (mut state, mut record, mut refusal) = ([0; STATE], [0; RECORD], [0; 4]);
+    let (mut state, mut record, mut refusal) = ([0; STATE], [0; RECORD], [0; REFUSAL]);
     let mut lines = 1;
     // SAFETY: as in `check`.
-    let mut number = unsafe { yws_sheet_open(file.as_ptr(), file.len(), &mut state) };
+    let mut number = unsafe { yws_sheet_open(file.as_ptr(), file.len() as u64, &mut state) };
     while number == 0 {
         // SAFETY: as in `check`; the file is the one that was opened.
-        number = unsafe { yws_sheet_next(file.as_ptr(), file.len(), &mut state, &mut record, &mut refusal) };
+        number = unsafe { yws_sheet_next(file.as_ptr(), file.len() as u64, &mut state, &mut record, &mut refusal) };
         if number == 0 {
             take(&record);
             lines += 1;
@@ -85,12 +43,13 @@ pub fn read(file: &[u8]) -> Result<usize, u16> {
 /// Reads every record and writes it again; the length written, or the refusal's number.
 pub fn write(file: &[u8], out: &mut [u8]) -> Result<usize, u16> {
     let (mut state, mut own, mut number) = ([0; STATE], 0, 0);
-    let (start, room) = (out.as_mut_ptr(), out.len());
+    let (start, room) = (out.as_mut_ptr(), out.len() as u64);
     // SAFETY: `out` is a slice of that length, the others are what the header asks for, and none overlaps another.
     unsafe { yws_writer_open(start, room, &mut state) };
     each(file, |record| {
         // SAFETY: as above, and `file` is a slice of that length, which the texts lie in.
-        number |= unsafe { yws_writer_put(start, room, &mut state, record, file.as_ptr(), file.len(), &mut own) };
+        number |=
+            unsafe { yws_writer_put(start, room, &mut state, record, file.as_ptr(), file.len() as u64, &mut own) };
     })?;
     // SAFETY: as above.
     number |= unsafe { yws_writer_close(start, room, &mut state, &mut own) };
@@ -104,14 +63,14 @@ pub fn write(file: &[u8], out: &mut [u8]) -> Result<usize, u16> {
 pub fn open(file: &[u8]) -> bool {
     let mut state = [0; STATE];
     // SAFETY: as in `check`.
-    unsafe { yws_sheet_open(file.as_ptr(), file.len(), &mut state) == 0 }
+    unsafe { yws_sheet_open(file.as_ptr(), file.len() as u64, &mut state) == 0 }
 }
 
 /// The numbers of a usage code.
 pub fn usage_read(code: &[u8]) -> Usage {
     let (mut numbers, mut place) = ([0; USAGE], 0);
     // SAFETY: as in `check`.
-    unsafe { yws_usage_read(code.as_ptr(), code.len(), &mut numbers, &mut place) };
+    unsafe { yws_usage_read(code.as_ptr(), code.len() as u64, &mut numbers, &mut place) };
     numbers
 }
 
@@ -127,7 +86,7 @@ pub fn usage_write(numbers: &Usage) -> [u8; 16] {
 pub fn supplement_read(code: &[u8]) -> Supplement {
     let (mut numbers, mut place) = ([0; SUPPLEMENT], 0);
     // SAFETY: as in `check`.
-    unsafe { yws_supplement_read(code.as_ptr(), code.len(), &mut numbers, &mut place) };
+    unsafe { yws_supplement_read(code.as_ptr(), code.len() as u64, &mut numbers, &mut place) };
     numbers
 }
 

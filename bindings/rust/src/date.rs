@@ -62,8 +62,7 @@ impl Date {
     pub fn make(year: u16, month: u8, day: u8, style: Style) -> Result<(Date, DateText), Reason> {
         let mut numbers = [0; 4];
         let mut bytes = [0; 8];
-        // SAFETY: both are arrays of the right lengths and do not overlap.
-        match unsafe { ffi::yws_date_make(year, month, day, style as u8, &mut numbers, &mut bytes) } {
+        match ffi::date_make(year, month, day, style as u8, &mut numbers, &mut bytes) {
             0 => {
                 let date = Date::of(&numbers);
                 let length = if date.era.is_some() { 7 } else { 8 };

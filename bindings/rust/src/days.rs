@@ -22,7 +22,7 @@ pub struct RunRefusal {
 
 impl DaySet {
     /// Bytes of the longest run.
-    pub const LONGEST_RUN: usize = 536;
+    pub const LONGEST_RUN: usize = ffi::RUN_MOST;
 
     /// No day.
     pub fn new() -> DaySet {
@@ -33,8 +33,7 @@ impl DaySet {
     pub fn read(issue: u8, codes: &[u8]) -> Result<DaySet, RunRefusal> {
         let mut masks = [0; ffi::DAYS];
         let mut refusal = [0; 2];
-        // SAFETY: `codes` is a slice of that length, the others are arrays of the right lengths, and none overlaps another.
-        match unsafe { ffi::yws_run_read(issue, codes.as_ptr(), codes.len(), &mut masks, &mut refusal) } {
+        match ffi::run_read(issue, codes, &mut masks, &mut refusal) {
             0 => Ok(DaySet { masks }),
             number => Err(RunRefusal { reason: Reason::of(number), place: refusal[0], code: refusal[1] }),
         }
@@ -44,8 +43,7 @@ impl DaySet {
     /// leaves `out` as it was.
     pub fn write<'a>(&self, issue: u8, out: &'a mut [u8]) -> Result<&'a [u8], Reason> {
         let mut count = 0;
-        // SAFETY: `out` is a slice of that length, the others are of the right lengths, and none overlaps another.
-        match unsafe { ffi::yws_set_write(issue, &self.masks, out.as_mut_ptr(), out.len(), &mut count) } {
+        match ffi::set_write(issue, &self.masks, out, &mut count) {
             0 => Ok(&out[..8 * count as usize]),
             number => Err(Reason::of(number)),
         }

@@ -1,51 +1,83 @@
-//! The functions of `include/yawsimbel.h`, which says what each promises.
+//! The library's functions, each lent slices: the one place that has unsafe code. The header says what each promises.
 
-pub const END: u16 = 65_535;
+#![allow(unsafe_code)]
 
-// Lengths of the arrays, under the header's names.
-pub const USAGE: usize = 29;
-pub const SUPPLEMENT: usize = 22;
-pub const DAYS: usize = 13;
-pub const DATE: usize = 4;
-pub const RECORD: usize = 40;
-pub const STATE: usize = 16;
-pub const REFUSAL: usize = 4;
+pub(crate) use yawsimbel_sys::{
+    Date, Days, Record, Refusal, State, Supplement, Usage, DAYS, END, FILE_MOST, RECORD, REFUSAL, RUN_MOST, STATE,
+    SUPPLEMENT, USAGE,
+};
 
-pub type Usage = [u64; USAGE];
-pub type Supplement = [u64; SUPPLEMENT];
-pub type Days = [u32; DAYS];
-pub type Date = [u64; DATE];
-pub type Record = [u64; RECORD];
-pub type State = [u64; STATE];
-pub type Refusal = [u64; REFUSAL];
+use yawsimbel_sys as sys;
 
-// Arrays are passed by reference: a reference to an array is a pointer to its first element, never NULL.
-extern "C" {
-    pub fn yws_usage_read(code: *const u8, length: usize, numbers: &mut Usage, place: &mut u64) -> u16;
-    pub fn yws_usage_write(numbers: &Usage, code: &mut [u8; 16]) -> u16;
-    pub fn yws_supplement_read(code: *const u8, length: usize, numbers: &mut Supplement, place: &mut u64) -> u16;
-    pub fn yws_supplement_write(numbers: &Supplement, code: &mut [u8; 8]) -> u16;
-    pub fn yws_run_read(issue: u8, codes: *const u8, length: usize, days: &mut Days, refusal: &mut [u64; 2]) -> u16;
-    pub fn yws_set_write(issue: u8, days: &Days, out: *mut u8, room: usize, count: &mut u64) -> u16;
-    pub fn yws_sheet_check(file: *const u8, length: usize, records: &mut u64, refusal: &mut Refusal) -> u16;
-    pub fn yws_sheet_open(file: *const u8, length: usize, state: &mut State) -> u16;
-    pub fn yws_sheet_next(
-        file: *const u8,
-        length: usize,
-        state: &mut State,
-        record: &mut Record,
-        refusal: &mut Refusal,
-    ) -> u16;
-    pub fn yws_writer_open(out: *mut u8, room: usize, state: &mut State) -> u16;
-    pub fn yws_writer_put(
-        out: *mut u8,
-        room: usize,
-        state: &mut State,
-        record: &Record,
-        lent: *const u8,
-        length: usize,
-        own: &mut u64,
-    ) -> u16;
-    pub fn yws_writer_close(out: *mut u8, room: usize, state: &mut State, own: &mut u64) -> u16;
-    pub fn yws_date_make(year: u16, month: u8, day: u8, style: u8, numbers: &mut Date, text: &mut [u8; 8]) -> u16;
+// SAFETY, of every call below: a slice's pointer is not NULL and has that many bytes; an array that is borrowed has the length that its type says;
+// what is written is borrowed mutably, so it overlaps nothing else; and no function keeps a pointer.
+
+fn length(slice: &[u8]) -> u64 {
+    slice.len() as u64
+}
+
+pub(crate) fn usage_read(code: &[u8], numbers: &mut Usage, place: &mut u64) -> u16 {
+    // SAFETY: as above.
+    unsafe { sys::yws_usage_read(code.as_ptr(), length(code), numbers, place) }
+}
+
+pub(crate) fn usage_write(numbers: &Usage, code: &mut [u8; 16]) -> u16 {
+    // SAFETY: as above.
+    unsafe { sys::yws_usage_write(numbers, code) }
+}
+
+pub(crate) fn supplement_read(code: &[u8], numbers: &mut Supplement, place: &mut u64) -> u16 {
+    // SAFETY: as above.
+    unsafe { sys::yws_supplement_read(code.as_ptr(), length(code), numbers, place) }
+}
+
+pub(crate) fn supplement_write(numbers: &Supplement, code: &mut [u8; 8]) -> u16 {
+    // SAFETY: as above.
+    unsafe { sys::yws_supplement_write(numbers, code) }
+}
+
+pub(crate) fn run_read(issue: u8, codes: &[u8], days: &mut Days, refusal: &mut [u64; 2]) -> u16 {
+    // SAFETY: as above.
+    unsafe { sys::yws_run_read(issue, codes.as_ptr(), length(codes), days, refusal) }
+}
+
+pub(crate) fn set_write(issue: u8, days: &Days, out: &mut [u8], count: &mut u64) -> u16 {
+    // SAFETY: as above.
+    unsafe { sys::yws_set_write(issue, days, out.as_mut_ptr(), length(out), count) }
+}
+
+pub(crate) fn sheet_check(file: &[u8], records: &mut u64, refusal: &mut Refusal) -> u16 {
+    // SAFETY: as above.
+    unsafe { sys::yws_sheet_check(file.as_ptr(), length(file), records, refusal) }
+}
+
+pub(crate) fn sheet_open(file: &[u8], state: &mut State) -> u16 {
+    // SAFETY: as above.
+    unsafe { sys::yws_sheet_open(file.as_ptr(), length(file), state) }
+}
+
+/// Any state may be lent: the library answers whatever its numbers are.
+pub(crate) fn sheet_next(file: &[u8], state: &mut State, record: &mut Record, refusal: &mut Refusal) -> u16 {
+    // SAFETY: as above.
+    unsafe { sys::yws_sheet_next(file.as_ptr(), length(file), state, record, refusal) }
+}
+
+pub(crate) fn writer_open(out: &mut [u8], state: &mut State) -> u16 {
+    // SAFETY: as above.
+    unsafe { sys::yws_writer_open(out.as_mut_ptr(), length(out), state) }
+}
+
+pub(crate) fn writer_put(out: &mut [u8], state: &mut State, record: &Record, lent: &[u8], own: &mut u64) -> u16 {
+    // SAFETY: as above.
+    unsafe { sys::yws_writer_put(out.as_mut_ptr(), length(out), state, record, lent.as_ptr(), length(lent), own) }
+}
+
+pub(crate) fn writer_close(out: &mut [u8], state: &mut State, own: &mut u64) -> u16 {
+    // SAFETY: as above.
+    unsafe { sys::yws_writer_close(out.as_mut_ptr(), length(out), state, own) }
+}
+
+pub(crate) fn date_make(year: u16, month: u8, day: u8, style: u8, numbers: &mut Date, text: &mut [u8; 8]) -> u16 {
+    // SAFETY: as above.
+    unsafe { sys::yws_date_make(year, month, day, style, numbers, text) }
 }

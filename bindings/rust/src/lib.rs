@@ -14,7 +14,8 @@
 //! }
 //! ```
 #![no_std]
-#![deny(missing_docs)]
+#![deny(unsafe_code)]
+#![warn(missing_docs)]
 
 mod date;
 mod days;

@@ -206,7 +206,8 @@ impl<'a> Record<'a> {
                 n[3] = optional_number(supplement.kind);
                 n[4..6].copy_from_slice(&scratch.add(supplement.text, 100));
                 n[6..8].copy_from_slice(&scratch.add(supplement.site, 3));
-                n[SUPPLEMENT_CODE].copy_from_slice(&supplement.code.map_or([0; ffi::SUPPLEMENT], |code| code.numbers()));
+                n[SUPPLEMENT_CODE]
+                    .copy_from_slice(&supplement.code.map_or([0; ffi::SUPPLEMENT], |code| code.numbers()));
                 scratch.all()
             }
             Record::Drug(drug) => {

@@ -5,7 +5,7 @@ use crate::record::Scratch;
 use crate::{CodeRefusal, Reason, Record};
 
 /// Bytes of the longest file.
-pub const LONGEST_FILE: usize = 16_384;
+pub const LONGEST_FILE: usize = ffi::FILE_MOST;
 
 /// A refusal of a sheet.
 #[derive(Clone, Copy, Debug, PartialEq, Eq, Hash)]
@@ -37,8 +37,7 @@ impl SheetRefusal {
 pub fn check(file: &[u8]) -> Result<u64, SheetRefusal> {
     let mut records = 0;
     let mut refusal = [0; ffi::REFUSAL];
-    // SAFETY: `file` is a slice of that length, the others are of the right lengths, and none overlaps another.
-    match unsafe { ffi::yws_sheet_check(file.as_ptr(), file.len(), &mut records, &mut refusal) } {
+    match ffi::sheet_check(file, &mut records, &mut refusal) {
         0 => Ok(records),
         number => Err(SheetRefusal::of(number, &refusal)),
     }
@@ -57,9 +56,8 @@ impl<'a> Sheet<'a> {
     /// Begins to read a file. What is wrong with it as a whole is the first thing that the iterator says.
     pub fn open(file: &'a [u8]) -> Sheet<'a> {
         let mut state = [0; ffi::STATE];
-        // SAFETY: `file` is a slice of that length, `state` of the right length, and they do not overlap.
         // The answer may be left alone: yws_sheet_next says it again, with its place.
-        let _ = unsafe { ffi::yws_sheet_open(file.as_ptr(), file.len(), &mut state) };
+        let _ = ffi::sheet_open(file, &mut state);
         Sheet { file, state, ended: false }
     }
 
@@ -78,11 +76,7 @@ impl<'a> Iterator for Sheet<'a> {
         }
         let mut record = [0; ffi::RECORD];
         let mut refusal = [0; ffi::REFUSAL];
-        // SAFETY: `file` is the slice that `state` was made for, borrowed since so unchanged; the others are of the right lengths, and none
-        // overlaps another.
-        let number = unsafe {
-            ffi::yws_sheet_next(self.file.as_ptr(), self.file.len(), &mut self.state, &mut record, &mut refusal)
-        };
+        let number = ffi::sheet_next(self.file, &mut self.state, &mut record, &mut refusal);
         self.ended = number != 0;
         match number {
             0 => Some(Ok(Record::of(&record, self.file))),
@@ -123,8 +117,7 @@ impl<'b> Writer<'b> {
     /// Begins a file with its version line.
     pub fn open(out: &'b mut [u8]) -> Result<Writer<'b>, WriteRefusal> {
         let mut state = [0; ffi::STATE];
-        // SAFETY: `out` is a slice of that length, `state` of the right length, and they do not overlap.
-        match unsafe { ffi::yws_writer_open(out.as_mut_ptr(), out.len(), &mut state) } {
+        match ffi::writer_open(out, &mut state) {
             0 => Ok(Writer { out, state }),
             number => Err(WriteRefusal::of(number, 0)),
         }
@@ -135,19 +128,7 @@ impl<'b> Writer<'b> {
         let mut scratch = Scratch::new();
         let (numbers, lent) = record.lent(&mut scratch);
         let mut own = 0;
-        // SAFETY: `out` and `lent` are slices of those lengths, `out` borrowed mutably so apart from all others; `state` is this buffer's,
-        // which has not changed since; the others are of the right lengths.
-        let number = unsafe {
-            ffi::yws_writer_put(
-                self.out.as_mut_ptr(),
-                self.out.len(),
-                &mut self.state,
-                &numbers,
-                lent.as_ptr(),
-                lent.len(),
-                &mut own,
-            )
-        };
+        let number = ffi::writer_put(self.out, &mut self.state, &numbers, lent, &mut own);
         match number {
             0 => Ok(()),
             number => Err(WriteRefusal::of(number, own)),
@@ -157,8 +138,7 @@ impl<'b> Writer<'b> {
     /// Ends the file. Afterwards [`Writer::written`] is all of it.
     pub fn close(&mut self) -> Result<(), WriteRefusal> {
         let mut own = 0;
-        // SAFETY: as for `put`.
-        let number = unsafe { ffi::yws_writer_close(self.out.as_mut_ptr(), self.out.len(), &mut self.state, &mut own) };
+        let number = ffi::writer_close(self.out, &mut self.state, &mut own);
         match number {
             0 => Ok(()),
             number => Err(WriteRefusal::of(number, own)),
@@ -181,8 +161,7 @@ mod states {
     /// What the next call on a state says, and that it leaves the state.
     fn next(state: ffi::State) -> (u16, ffi::Refusal) {
         let (mut after, mut record, mut refusal) = (state, [7; ffi::RECORD], [7; ffi::REFUSAL]);
-        // SAFETY: `FILE` is a slice of that length, the others are of the right lengths, and none overlaps another.
-        let number = unsafe { ffi::yws_sheet_next(FILE.as_ptr(), FILE.len(), &mut after, &mut record, &mut refusal) };
+        let number = ffi::sheet_next(FILE, &mut after, &mut record, &mut refusal);
         assert_eq!((after, record), (state, [7; ffi::RECORD]));
         (number, refusal)
     }
@@ -191,13 +170,10 @@ mod states {
     fn put_and_close(state: ffi::State) -> [(u16, u64); 2] {
         let (mut after, mut out, mut record, mut own) = (state, [b'!'; 99], [0; ffi::RECORD], [7; 2]);
         record[0] = 1;
-        // SAFETY: `out` and `FILE` are slices of those lengths, the others are of the right lengths, and none overlaps another.
-        let numbers = unsafe {
-            [
-                ffi::yws_writer_put(out.as_mut_ptr(), 99, &mut after, &record, FILE.as_ptr(), FILE.len(), &mut own[0]),
-                ffi::yws_writer_close(out.as_mut_ptr(), 99, &mut after, &mut own[1]),
-            ]
-        };
+        let numbers = [
+            ffi::writer_put(&mut out, &mut after, &record, FILE, &mut own[0]),
+            ffi::writer_close(&mut out, &mut after, &mut own[1]),
+        ];
         assert_eq!((after, out), (state, [b'!'; 99]));
         [(numbers[0], own[0]), (numbers[1], own[1])]
     }
@@ -225,8 +201,7 @@ mod states {
             assert_eq!(next(state(5, second)), (number, [5, 0, 0, 0]));
         }
         let mut opened = [0; ffi::STATE];
-        // SAFETY: the bytes and `opened` are of the right lengths and do not overlap.
-        let number = unsafe { ffi::yws_sheet_open(b"JAHIS5".as_ptr(), 6, &mut opened) };
+        let number = ffi::sheet_open(b"JAHIS5", &mut opened);
         assert_eq!((number, opened), (21, state(6, 22)));
     }
 
@@ -242,8 +217,7 @@ mod states {
     #[test]
     fn no_room_leaves_the_state() {
         let (mut after, mut out) = ([7; ffi::STATE], [b'!'; 8]);
-        // SAFETY: `out` is a slice of that length, `after` of the right length, and they do not overlap.
-        let number = unsafe { ffi::yws_writer_open(out.as_mut_ptr(), 8, &mut after) };
+        let number = ffi::writer_open(&mut out, &mut after);
         assert_eq!((number, after, out), (33, [7; ffi::STATE], [b'!'; 8]));
     }
 }

@@ -61,8 +61,7 @@ impl Supplement {
     pub fn read(code: &[u8]) -> Result<Supplement, CodeRefusal> {
         let mut numbers = [0; ffi::SUPPLEMENT];
         let mut place = 0;
-        // SAFETY: `code` is a slice of that length, the others are arrays of the right lengths, and none overlaps another.
-        match unsafe { ffi::yws_supplement_read(code.as_ptr(), code.len(), &mut numbers, &mut place) } {
+        match ffi::supplement_read(code, &mut numbers, &mut place) {
             0 => Ok(Supplement::of(&numbers)),
             number => Err(CodeRefusal { reason: Reason::of(number), place }),
         }
@@ -71,8 +70,7 @@ impl Supplement {
     /// Writes the code that reads as this; `None` where there is none.
     pub fn write(&self) -> Option<[u8; 8]> {
         let mut code = [0; 8];
-        // SAFETY: both are arrays of the right lengths and do not overlap.
-        match unsafe { ffi::yws_supplement_write(&self.numbers(), &mut code) } {
+        match ffi::supplement_write(&self.numbers(), &mut code) {
             0 => Some(code),
             _ => None,
         }

@@ -174,8 +174,7 @@ impl Usage {
     pub fn read(code: &[u8]) -> Result<Usage, CodeRefusal> {
         let mut numbers = [0; ffi::USAGE];
         let mut place = 0;
-        // SAFETY: `code` is a slice of that length, the others are arrays of the right lengths, and none overlaps another.
-        match unsafe { ffi::yws_usage_read(code.as_ptr(), code.len(), &mut numbers, &mut place) } {
+        match ffi::usage_read(code, &mut numbers, &mut place) {
             0 => Ok(Usage::of(&numbers)),
             number => Err(CodeRefusal { reason: Reason::of(number), place }),
         }
@@ -184,8 +183,7 @@ impl Usage {
     /// Writes the code that reads as this; `None` where there is none.
     pub fn write(&self) -> Option<[u8; 16]> {
         let mut code = [0; 16];
-        // SAFETY: both are arrays of the right lengths and do not overlap.
-        match unsafe { ffi::yws_usage_write(&self.numbers(), &mut code) } {
+        match ffi::usage_write(&self.numbers(), &mut code) {
             0 => Some(code),
             _ => None,
         }
