@@ -42,32 +42,19 @@ fn labels(file: &[u8], out: &mut Vec<u8>) -> io::Result<()> {
         match record {
             Ok(Record::Usage(usage)) => {
                 write!(out, "RP {}: ", usage.rp)?;
-                out.extend(usage.name);
+                out.extend(usage.name.as_bytes());
                 out.push(b'\n');
             }
             Ok(Record::Drug(drug)) => {
                 out.extend(b"  ");
                 // A drug that has no name has a code.
-                out.extend(if drug.name.is_empty() { drug.code } else { drug.name });
-                out.extend(b", ");
-                amount(drug.amount, out)?;
-                out.push(b' ');
-                out.extend(drug.unit);
+                out.extend(if drug.name.is_empty() { drug.code.text() } else { drug.name }.as_bytes());
+                write!(out, ", {} ", drug.amount)?;
+                out.extend(drug.unit.as_bytes());
                 out.push(b'\n');
             }
             _ => {}
         }
-    }
-    Ok(())
-}
-
-/// Hundred-thousandths as a number, with no more places than it needs.
-fn amount(amount: u64, out: &mut Vec<u8>) -> io::Result<()> {
-    write!(out, "{}", amount / 100_000)?;
-    let places = format!("{:05}", amount % 100_000);
-    let places = places.trim_end_matches('0');
-    if !places.is_empty() {
-        write!(out, ".{}", places)?;
     }
     Ok(())
 }

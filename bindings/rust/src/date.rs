@@ -1,91 +1,314 @@
 //! Dates as a sheet has them.
 
-use core::ops::Deref;
+use core::fmt;
+use core::str::FromStr;
 
 use crate::ffi;
-use crate::Reason;
+use crate::{Reason, Record, Sheet};
 
-/// A day, with the style that it is written in.
-#[derive(Clone, Copy, Debug, PartialEq, Eq, Hash)]
+/// A day of the calendar, with the style that it is written in. There is no way to make one that the library does not take.
+///
+/// ```
+/// use yawsimbel::{Date, Era, Style};
+///
+/// let date: Date = "20180702".parse()?;
+/// assert_eq!((date.year(), date.month(), date.day(), date.era()), (2018, 7, 2, None));
+///
+/// let made = Date::make(2018, 7, 2, Style::Era)?;
+/// assert_eq!(made.era(), Some(Era::Heisei));
+/// assert_eq!(made.to_string(), "4300702");
+/// # Ok::<(), yawsimbel::Reason>(())
+/// ```
+#[derive(Clone, Copy, PartialEq, Eq, Hash)]
 pub struct Date {
-    /// The era of era style; `None` for western style.
-    pub era: Option<Era>,
-    /// The western year.
-    pub year: u16,
-    /// 1 to 12.
-    pub month: u8,
-    /// 1 to 31.
-    pub day: u8,
+    era: Option<Era>,
+    year: u16,
+    month: u8,
+    day: u8,
 }
 
 /// An era.
-#[derive(Clone, Copy, Debug, PartialEq, Eq, Hash)]
+#[derive(Clone, Copy, Debug, PartialEq, Eq, PartialOrd, Ord, Hash)]
 #[repr(u8)]
 pub enum Era {
-    /// From 1868.
+    /// From 1868 (明治).
     Meiji = 1,
-    /// From 1912.
+    /// From 1912 (大正).
     Taisho = 2,
-    /// From 1926.
+    /// From 1926 (昭和).
     Showa = 3,
-    /// From 1989; later years go on in it.
+    /// From 1989 (平成); later years go on in it.
     Heisei = 4,
 }
 
 /// The style that a date is to be made in.
-#[derive(Clone, Copy, Debug, PartialEq, Eq, Hash)]
+#[derive(Clone, Copy, Debug, Default, PartialEq, Eq, Hash)]
 #[repr(u8)]
 pub enum Style {
     /// Year, month, day.
     Western = 1,
-    /// The latest era whose year 01 is not after the date; western style from 2088.
+    /// The latest era whose year 01 is not after the date; western style from 2088. It is what a date has for which no style is named.
+    #[default]
     Era = 2,
 }
 
-/// The characters of a date.
-#[derive(Clone, Copy, Debug, PartialEq, Eq, Hash)]
+/// The characters of a date: eight in western style, seven in era style.
+#[derive(Clone, Copy, PartialEq, Eq, Hash)]
 pub struct DateText {
-    bytes: [u8; 8],
+    digits: [u8; 8],
     length: usize,
 }
 
-impl Deref for DateText {
-    type Target = [u8];
-
-    fn deref(&self) -> &[u8] {
-        &self.bytes[..self.length]
-    }
-}
+/// The smallest lines that may stand before a date of issue.
+const BEFORE: &[u8] = b"JAHIS5\r\n1,\r\n5,\r\n11,\r\n12,\r\n13,\r\n22,\r\n23,\r\n51,";
+const AFTER: &[u8] = b"\r\n\x1a";
 
 impl Date {
-    /// Makes a date of a western year, and its characters. [`Reason::Value`] where there is no such day or year.
-    pub fn make(year: u16, month: u8, day: u8, style: Style) -> Result<(Date, DateText), Reason> {
+    /// Makes a date of a western year. [`Reason::Value`] where there is no such day or year.
+    pub fn make(year: u16, month: u8, day: u8, style: Style) -> Result<Date, Reason> {
         let mut numbers = [0; 4];
-        let mut bytes = [0; 8];
-        match ffi::date_make(year, month, day, style as u8, &mut numbers, &mut bytes) {
-            0 => {
-                let date = Date::of(&numbers);
-                let length = if date.era.is_some() { 7 } else { 8 };
-                Ok((date, DateText { bytes, length }))
-            }
+        match ffi::date_make(year, month, day, style as u8, &mut numbers, &mut [0; 8]) {
+            0 => Date::of(&numbers).ok_or(Reason::Other),
             number => Err(Reason::of(number)),
         }
     }
 
-    /// Of the numbers that the library gives.
-    pub(crate) fn of(n: &ffi::Date) -> Date {
+    /// Makes a date of a year of an era, 1 to 99, also one that the era did not reach. [`Reason::Value`] where there is no such day or year.
+    ///
+    /// ```
+    /// use yawsimbel::{Date, Era};
+    ///
+    /// let date = Date::of_era(Era::Showa, 64, 1, 7)?;
+    /// assert_eq!((date.year(), date.to_string().as_str()), (1989, "3640107"));
+    /// # Ok::<(), yawsimbel::Reason>(())
+    /// ```
+    pub fn of_era(era: Era, year: u8, month: u8, day: u8) -> Result<Date, Reason> {
+        if [year, month, day].iter().any(|number| *number > 99) {
+            return Err(Reason::Value);
+        }
+        let text = DateText::of_era(era, year.into(), month, day);
+        Date::try_from(text.as_str().as_bytes())
+    }
+
+    /// The era of era style; `None` for western style.
+    pub const fn era(&self) -> Option<Era> {
+        self.era
+    }
+
+    /// The western year, in either style.
+    pub const fn year(&self) -> u16 {
+        self.year
+    }
+
+    /// 1 to 12.
+    pub const fn month(&self) -> u8 {
+        self.month
+    }
+
+    /// 1 to 31.
+    pub const fn day(&self) -> u8 {
+        self.day
+    }
+
+    /// Its characters, as a sheet has them.
+    pub fn text(&self) -> DateText {
+        match self.era {
+            Some(era) => DateText::of_era(era, (self.year + 1).saturating_sub(era.first_year()), self.month, self.day),
+            None => DateText::western(self.year, self.month, self.day),
+        }
+    }
+
+    /// Of the numbers that the library gives; `None` for an era that this crate does not know.
+    pub(crate) fn of(n: &ffi::Date) -> Option<Date> {
         let era = match n[0] {
+            0 => None,
             1 => Some(Era::Meiji),
             2 => Some(Era::Taisho),
             3 => Some(Era::Showa),
             4 => Some(Era::Heisei),
-            _ => None,
+            _ => return None,
         };
-        Date { era, year: n[1] as u16, month: n[2] as u8, day: n[3] as u8 }
+        Some(Date { era, year: n[1].try_into().ok()?, month: n[2].try_into().ok()?, day: n[3].try_into().ok()? })
     }
 
     pub(crate) fn numbers(&self) -> ffi::Date {
         let era = self.era.map_or(0, |era| era as u64);
         [era, u64::from(self.year), u64::from(self.month), u64::from(self.day)]
+    }
+}
+
+impl Era {
+    /// The western year in which it begins, its year 01.
+    pub const fn first_year(self) -> u16 {
+        match self {
+            Era::Meiji => 1868,
+            Era::Taisho => 1912,
+            Era::Showa => 1926,
+            Era::Heisei => 1989,
+        }
+    }
+}
+
+/// Reads the characters of a date, in either style: what the library says of them in a record 51.
+impl TryFrom<&[u8]> for Date {
+    type Error = Reason;
+
+    fn try_from(text: &[u8]) -> Result<Date, Reason> {
+        // Anything else would be another field or another line, and no date.
+        if text.len() > 8 || !text.iter().all(u8::is_ascii_digit) {
+            return Err(Reason::Value);
+        }
+        let mut file = [0; BEFORE.len() + 8 + AFTER.len()];
+        let mut length = 0;
+        for part in [BEFORE, text, AFTER] {
+            file[length..length + part.len()].copy_from_slice(part);
+            length += part.len();
+        }
+        let issue = |record| match record {
+            Ok(Record::Issue(date)) => Some(Ok(date)),
+            Ok(_) => None,
+            Err(refusal) => Some(Err(refusal)),
+        };
+        match Sheet::open(&file[..length]).find_map(issue) {
+            Some(date) => date.map_err(|refusal: crate::SheetRefusal| refusal.reason),
+            None => Err(Reason::Other),
+        }
+    }
+}
+
+/// As the characters of a sheet, in either style. [`Reason::Value`] where they are no date, [`Reason::Present`] where there are none.
+impl FromStr for Date {
+    type Err = Reason;
+
+    fn from_str(text: &str) -> Result<Date, Reason> {
+        Date::try_from(text.as_bytes())
+    }
+}
+
+/// Western year, month and day, in western style.
+impl TryFrom<(u16, u8, u8)> for Date {
+    type Error = Reason;
+
+    fn try_from((year, month, day): (u16, u8, u8)) -> Result<Date, Reason> {
+        Date::make(year, month, day, Style::Western)
+    }
+}
+
+/// The characters that a sheet has for it.
+impl fmt::Display for Date {
+    fn fmt(&self, f: &mut fmt::Formatter<'_>) -> fmt::Result {
+        self.text().fmt(f)
+    }
+}
+
+/// As `2018-07-02`, and with the era where it is in era style: `2018-07-02 (Heisei 30)`.
+impl fmt::Debug for Date {
+    fn fmt(&self, f: &mut fmt::Formatter<'_>) -> fmt::Result {
+        write!(f, "{:04}-{:02}-{:02}", self.year, self.month, self.day)?;
+        match self.era {
+            Some(era) => write!(f, " ({:?} {})", era, (self.year + 1).saturating_sub(era.first_year())),
+            None => Ok(()),
+        }
+    }
+}
+
+impl DateText {
+    fn western(year: u16, month: u8, day: u8) -> DateText {
+        let mut text = DateText { digits: [b'0'; 8], length: 8 };
+        text.put(0..4, year);
+        text.put(4..6, month.into());
+        text.put(6..8, day.into());
+        text
+    }
+
+    fn of_era(era: Era, year: u16, month: u8, day: u8) -> DateText {
+        let mut text = DateText { digits: [b'0'; 8], length: 7 };
+        text.put(0..1, era as u16);
+        text.put(1..3, year);
+        text.put(3..5, month.into());
+        text.put(5..7, day.into());
+        text
+    }
+
+    /// Puts a number's last digits.
+    fn put(&mut self, place: core::ops::Range<usize>, mut number: u16) {
+        for digit in self.digits[place].iter_mut().rev() {
+            *digit = b'0' + (number % 10) as u8;
+            number /= 10;
+        }
+    }
+
+    /// Its characters.
+    pub fn as_str(&self) -> &str {
+        core::str::from_utf8(&self.digits[..self.length]).unwrap_or_default()
+    }
+}
+
+impl AsRef<str> for DateText {
+    fn as_ref(&self) -> &str {
+        self.as_str()
+    }
+}
+
+impl AsRef<[u8]> for DateText {
+    fn as_ref(&self) -> &[u8] {
+        self.as_str().as_bytes()
+    }
+}
+
+impl fmt::Display for DateText {
+    fn fmt(&self, f: &mut fmt::Formatter<'_>) -> fmt::Result {
+        f.pad(self.as_str())
+    }
+}
+
+impl fmt::Debug for DateText {
+    fn fmt(&self, f: &mut fmt::Formatter<'_>) -> fmt::Result {
+        fmt::Debug::fmt(self.as_str(), f)
+    }
+}
+
+#[cfg(test)]
+mod tests {
+    extern crate std;
+
+    use std::string::ToString;
+
+    use super::*;
+
+    /// The library's own characters of every day, in both styles.
+    #[test]
+    fn texts_are_the_library_s() {
+        let mut seen = 0;
+        let days = (1868..=2099).flat_map(|y| (1..=12).flat_map(move |m| (1..=31).map(move |d| (y, m, d))));
+        for (year, month, day) in days {
+            for style in [Style::Western, Style::Era] {
+                let mut text = [0; 8];
+                if ffi::date_make(year, month, day, style as u8, &mut [0; 4], &mut text) != 0 {
+                    assert_eq!(Date::make(year, month, day, style), Err(Reason::Value));
+                    continue;
+                }
+                let date = Date::make(year, month, day, style).unwrap();
+                let length = if date.era().is_some() { 7 } else { 8 };
+                assert_eq!(date.text().as_str().as_bytes(), &text[..length]);
+                seen += 1;
+            }
+        }
+        // 232 years of which 57 are leap years, twice.
+        assert_eq!(seen, 2 * (232 * 365 + 57));
+    }
+
+    /// Every year of every era is read as its western year, and written with the same characters.
+    #[test]
+    fn eras_are_read_back() {
+        for era in [Era::Meiji, Era::Taisho, Era::Showa, Era::Heisei] {
+            for year in 1..=99 {
+                let date = Date::of_era(era, year, 12, 31).unwrap();
+                assert_eq!((date.era(), date.year()), (Some(era), era.first_year() - 1 + u16::from(year)));
+                assert_eq!(date.to_string().parse(), Ok(date));
+            }
+            assert_eq!(Date::of_era(era, 0, 1, 1), Err(Reason::Value));
+            assert_eq!(Date::of_era(era, 100, 1, 1), Err(Reason::Value));
+        }
     }
 }

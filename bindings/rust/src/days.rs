@@ -1,16 +1,116 @@
 //! Sets of days, and the runs of date codes that name them.
 
+use core::error::Error;
+use core::fmt;
+use core::iter::FusedIterator;
+
 use crate::ffi;
 use crate::Reason;
 
+/// A day, 1 to 31, of a named month or of every month. Whether a month has it is seen when the set that it is in is written.
+///
+/// ```
+/// use yawsimbel::Day;
+///
+/// let day = Day::of_month(12, 10)?;
+/// assert_eq!((day.month(), day.day()), (Some(12), 10));
+/// assert_eq!(day, Day::try_from((12, 10))?);
+/// assert!(Day::of_every_month(32).is_err());
+/// # Ok::<(), yawsimbel::Reason>(())
+/// ```
+#[derive(Clone, Copy, PartialEq, Eq, PartialOrd, Ord, Hash)]
+pub struct Day {
+    month: Option<u8>,
+    day: u8,
+}
+
+impl Day {
+    /// A day of a month, 1 to 12. [`Reason::DaySet`] where there is no such month, or the day is not 1 to 31.
+    pub const fn of_month(month: u8, day: u8) -> Result<Day, Reason> {
+        match (month, day) {
+            (1..=12, 1..=31) => Ok(Day { month: Some(month), day }),
+            _ => Err(Reason::DaySet),
+        }
+    }
+
+    /// A day of every month. [`Reason::DaySet`] where it is not 1 to 31.
+    pub const fn of_every_month(day: u8) -> Result<Day, Reason> {
+        match day {
+            1..=31 => Ok(Day { month: None, day }),
+            _ => Err(Reason::DaySet),
+        }
+    }
+
+    /// Its month; `None` for every month.
+    pub const fn month(self) -> Option<u8> {
+        self.month
+    }
+
+    /// 1 to 31.
+    pub const fn day(self) -> u8 {
+        self.day
+    }
+
+    /// Its mask among a set's, and its bit in that.
+    fn place(self) -> (usize, u32) {
+        (self.month.map_or(0, usize::from), 1 << (self.day - 1))
+    }
+}
+
+/// Month and day.
+impl TryFrom<(u8, u8)> for Day {
+    type Error = Reason;
+
+    fn try_from((month, day): (u8, u8)) -> Result<Day, Reason> {
+        Day::of_month(month, day)
+    }
+}
+
+/// The day of every month.
+impl TryFrom<u8> for Day {
+    type Error = Reason;
+
+    fn try_from(day: u8) -> Result<Day, Reason> {
+        Day::of_every_month(day)
+    }
+}
+
+/// Month and day, as `12:10`; `0:10` for every month.
+impl fmt::Display for Day {
+    fn fmt(&self, f: &mut fmt::Formatter<'_>) -> fmt::Result {
+        write!(f, "{}:{}", self.month.unwrap_or(0), self.day)
+    }
+}
+
+impl fmt::Debug for Day {
+    fn fmt(&self, f: &mut fmt::Formatter<'_>) -> fmt::Result {
+        fmt::Display::fmt(self, f)
+    }
+}
+
 /// Days of every month, or of named months.
-#[derive(Clone, Copy, Debug, Default, PartialEq, Eq, Hash)]
+///
+/// ```
+/// use yawsimbel::{Day, DaySet, Reason};
+///
+/// let set: DaySet = [(12, 10), (12, 20), (12, 30), (1, 15), (1, 30)].into_iter().map(Day::try_from).collect::<Result<_, _>>()?;
+/// let mut out = [0; DaySet::LONGEST_RUN];
+/// assert_eq!(set.write(12, &mut out)?, b"DCAKU000D1FU0000");
+/// # Ok::<(), Reason>(())
+/// ```
+#[derive(Clone, Copy, Default, PartialEq, Eq, Hash)]
 pub struct DaySet {
     masks: ffi::Days,
 }
 
 /// A refusal of a run.
+///
+/// ```
+/// let refusal = yawsimbel::DaySet::read(1, b"DCAKU000D1FU0000").unwrap_err();
+/// assert_eq!(refusal.to_string(), "the codes up to this one begin no allowed run (12) at code 2");
+/// ```
 #[derive(Clone, Copy, Debug, PartialEq, Eq, Hash)]
+#[non_exhaustive]
 pub struct RunRefusal {
     /// Why.
     pub reason: Reason,
@@ -19,6 +119,20 @@ pub struct RunRefusal {
     /// The number, counted from 1, of a code that is refused by itself; else 0.
     pub code: u64,
 }
+
+impl fmt::Display for RunRefusal {
+    fn fmt(&self, f: &mut fmt::Formatter<'_>) -> fmt::Result {
+        self.reason.fmt(f)?;
+        match (self.code, self.place) {
+            (0, 0) => Ok(()),
+            (0, code) => write!(f, " at code {}", code),
+            (code, 0) => write!(f, " at code {}", code),
+            (code, place) => write!(f, " at character {} of code {}", place, code),
+        }
+    }
+}
+
+impl Error for RunRefusal {}
 
 impl DaySet {
     /// Bytes of the longest run.
@@ -49,40 +163,99 @@ impl DaySet {
         }
     }
 
-    /// Whether a day stands; `None` is every month.
-    pub fn contains(&self, month: Option<u8>, day: u8) -> bool {
-        cell(month).zip(bit(day)).map_or(false, |(cell, bit)| self.masks[cell] & bit != 0)
+    /// Whether the day stands in it. A day of every month does not stand for that of each.
+    pub fn contains(&self, day: Day) -> bool {
+        let (cell, bit) = day.place();
+        self.masks[cell] & bit != 0
     }
 
-    /// Adds a day. False, and nothing added, where there is no month 1 to 12 or day 1 to 31 like it.
-    pub fn insert(&mut self, month: Option<u8>, day: u8) -> bool {
-        match cell(month).zip(bit(day)) {
-            Some((cell, bit)) => {
-                self.masks[cell] |= bit;
-                true
-            }
-            None => false,
-        }
+    /// Adds a day; false where it was there.
+    pub fn insert(&mut self, day: Day) -> bool {
+        let (cell, bit) = day.place();
+        let new = self.masks[cell] & bit == 0;
+        self.masks[cell] |= bit;
+        new
     }
 
-    /// The days of a month, rising; `None` is every month.
-    pub fn days(&self, month: Option<u8>) -> impl Iterator<Item = u8> {
-        let mask = cell(month).map_or(0, |cell| self.masks[cell]);
-        (1..=31).filter(move |day| mask >> (day - 1) & 1 == 1)
+    /// Takes a day out; false where it was not there.
+    pub fn remove(&mut self, day: Day) -> bool {
+        let (cell, bit) = day.place();
+        let old = self.masks[cell] & bit != 0;
+        self.masks[cell] &= !bit;
+        old
+    }
+
+    /// How many days there are.
+    pub fn len(&self) -> usize {
+        self.masks.iter().map(|mask| mask.count_ones() as usize).sum()
+    }
+
+    /// Whether there is none.
+    pub fn is_empty(&self) -> bool {
+        self.masks.iter().all(|mask| *mask == 0)
+    }
+
+    /// The days, those of every month first, then by month, rising.
+    pub fn iter(&self) -> DaySetIter {
+        DaySetIter { masks: self.masks }
     }
 }
 
-fn cell(month: Option<u8>) -> Option<usize> {
-    match month {
-        None => Some(0),
-        Some(month @ 1..=12) => Some(usize::from(month)),
-        Some(_) => None,
+impl Extend<Day> for DaySet {
+    fn extend<I: IntoIterator<Item = Day>>(&mut self, days: I) {
+        days.into_iter().for_each(|day| {
+            self.insert(day);
+        });
     }
 }
 
-fn bit(day: u8) -> Option<u32> {
-    match day {
-        1..=31 => Some(1 << (day - 1)),
-        _ => None,
+impl FromIterator<Day> for DaySet {
+    fn from_iter<I: IntoIterator<Item = Day>>(days: I) -> DaySet {
+        let mut set = DaySet::new();
+        set.extend(days);
+        set
     }
 }
+
+impl IntoIterator for DaySet {
+    type Item = Day;
+    type IntoIter = DaySetIter;
+
+    fn into_iter(self) -> DaySetIter {
+        self.iter()
+    }
+}
+
+impl IntoIterator for &DaySet {
+    type Item = Day;
+    type IntoIter = DaySetIter;
+
+    fn into_iter(self) -> DaySetIter {
+        self.iter()
+    }
+}
+
+impl fmt::Debug for DaySet {
+    fn fmt(&self, f: &mut fmt::Formatter<'_>) -> fmt::Result {
+        f.debug_set().entries(self).finish()
+    }
+}
+
+/// The days of a [`DaySet`].
+#[derive(Clone, Debug)]
+pub struct DaySetIter {
+    masks: ffi::Days,
+}
+
+impl Iterator for DaySetIter {
+    type Item = Day;
+
+    fn next(&mut self) -> Option<Day> {
+        let (cell, mask) = self.masks.iter_mut().enumerate().find(|(_, mask)| **mask != 0)?;
+        let bit = mask.trailing_zeros() as u8;
+        *mask &= *mask - 1;
+        Some(Day { month: (cell != 0).then_some(cell as u8), day: bit + 1 })
+    }
+}
+
+impl FusedIterator for DaySetIter {}

@@ -3,33 +3,56 @@
 //! A safe cover over the C interface of a library that is proved. Nothing is allocated: texts are parts of the file that was read, and files
 //! are written into a buffer of the caller's.
 //!
-//! ```no_run
-//! # let file: &[u8] = b"";
-//! for record in yawsimbel::Sheet::open(file) {
-//!     match record {
-//!         Ok(yawsimbel::Record::Drug(drug)) => println!("{:?} {}", drug.name, drug.amount),
-//!         Ok(_) => {}
-//!         Err(refusal) => println!("refused: {:?} at byte {}", refusal.reason, refusal.offset),
+//! ```
+//! use yawsimbel::{check, Record, Sheet};
+//!
+//! fn drugs(file: &[u8]) -> Result<(), yawsimbel::SheetRefusal> {
+//!     // The whole sheet first: nothing is told of one that is refused further on.
+//!     check(file)?;
+//!     for record in Sheet::open(file) {
+//!         if let Record::Drug(drug) = record? {
+//!             println!("RP {}: {:?}, {} {:?}", drug.rp, drug.name, drug.amount, drug.unit);
+//!         }
 //!     }
+//!     Ok(())
 //! }
+//!
+//! let refusal = drugs(b"JAHIS4\r\n\x1a").unwrap_err();
+//! assert_eq!(refusal.to_string(), "the first line is not JAHIS5 (22) at byte 0");
 //! ```
 #![no_std]
 #![deny(unsafe_code)]
 #![warn(missing_docs)]
 
+mod amount;
+mod code;
 mod date;
 mod days;
+mod detail;
+mod event;
+mod few;
 mod ffi;
+mod kinds;
 mod reason;
 mod record;
 mod sheet;
 mod supplement;
+mod text;
 mod usage;
+mod week;
 
+pub use amount::Amount;
+pub use code::{Code, SupplementCode, UsageCode};
 pub use date::{Date, DateText, Era, Style};
-pub use days::{DaySet, RunRefusal};
+pub use days::{Day, DaySet, DaySetIter, RunRefusal};
+pub use detail::{Class, Detail};
+pub use event::{Condition, Event};
+pub use few::{DatesOfMonth, Few, Hours};
+pub use kinds::{AmountOf, DrugCode, DrugKind, Form, SupplementKind};
 pub use reason::{CodeRefusal, Reason};
-pub use record::{DrugRecord, Record, RpRecord, SupplementRecord, UsageRecord};
+pub use record::{DrugRecord, KeptRecord, Record, RpRecord, SupplementRecord, UsageRecord};
 pub use sheet::{check, Sheet, SheetRefusal, WriteRefusal, Writer, LONGEST_FILE};
 pub use supplement::{Period, Supplement};
-pub use usage::{Class, Meal, Part, Timing, Usage};
+pub use text::Text;
+pub use usage::{About, Evening, Meal, Morning, Timing, Usage};
+pub use week::{Week, Weekday};

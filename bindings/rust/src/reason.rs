@@ -1,7 +1,18 @@
 //! Why something is refused.
 
+use core::error::Error;
+use core::fmt;
+
 /// The reasons, each with the number that it has in the C interface and in the rules.
-#[derive(Clone, Copy, Debug, PartialEq, Eq, Hash)]
+///
+/// ```
+/// use yawsimbel::Reason;
+///
+/// assert_eq!(Reason::Count.number(), 7);
+/// assert_eq!(Reason::of(7), Reason::Count);
+/// assert_eq!(Reason::Count.to_string(), "the count differs from the occasions (7)");
+/// ```
+#[derive(Clone, Copy, Debug, PartialEq, Eq, PartialOrd, Ord, Hash)]
 #[non_exhaustive]
 #[repr(u16)]
 pub enum Reason {
@@ -61,7 +72,7 @@ pub enum Reason {
     Record = 34,
     /// No code reads as this.
     NoCode = 35,
-    /// A number that this crate does not know: the library is newer.
+    /// A number that this crate does not know, or a value in an answer: the library is newer.
     Other = 0,
 }
 
@@ -77,17 +88,84 @@ impl Reason {
         ALL.iter().copied().find(|reason| reason.number() == number).unwrap_or(Other)
     }
 
-    /// Its number.
-    pub fn number(self) -> u16 {
+    /// Its number; 0 for [`Reason::Other`].
+    pub const fn number(self) -> u16 {
         self as u16
+    }
+
+    /// It in words, without its number.
+    pub const fn words(self) -> &'static str {
+        match self {
+            Reason::Length => "the code is not 16 or 8 characters long, or the run is not whole codes",
+            Reason::First => "the 1st character is unknown",
+            Reason::Detail => "the 2nd character is unknown",
+            Reason::Timing => "the 3rd character is unknown",
+            Reason::Character => "the character is outside its set",
+            Reason::Unused => "an unused character is not 0",
+            Reason::Count => "the count differs from the occasions",
+            Reason::Rule => "15 h without a full day, no such table row, pair or day, or an empty week",
+            Reason::Rising => "the hour or day does not rise",
+            Reason::IssueMonth => "the issue month is not 1 to 12",
+            Reason::DaySet => "the set of days cannot be written",
+            Reason::Run => "the codes up to this one begin no allowed run",
+            Reason::TooLong => "the file is too long",
+            Reason::Frame => "the file is not lines ended by CR LF, then one 1Ah",
+            Reason::Version => "the first line is not JAHIS5",
+            Reason::Unknown => "the record number is unknown",
+            Reason::Order => "the record is out of order",
+            Reason::Fields => "the record has another number of fields",
+            Reason::Text => "the text is badly formed, has a space at an end, or is too long",
+            Reason::Value => "no such number, date, amount, site or drug code",
+            Reason::Present => "a required field is empty, or a forbidden one filled",
+            Reason::Code => "the code is refused",
+            Reason::Counter => "the RP number or serial is not as ordered",
+            Reason::Schedule => "the supplement is not allowed after those before it in its RP",
+            Reason::Missing => "a needed record is missing",
+            Reason::Room => "there is no room",
+            Reason::Record => "the reader would refuse the record here",
+            Reason::NoCode => "no code reads as this",
+            Reason::Other => "the library says what this crate does not know",
+        }
+    }
+}
+
+/// In words, with its number.
+impl fmt::Display for Reason {
+    fn fmt(&self, f: &mut fmt::Formatter<'_>) -> fmt::Result {
+        write!(f, "{} ({})", self.words(), self.number())
+    }
+}
+
+impl Error for Reason {}
+
+impl From<Reason> for u16 {
+    fn from(reason: Reason) -> u16 {
+        reason.number()
     }
 }
 
 /// A refusal of a code.
+///
+/// ```
+/// let refusal = "1012044400000000".parse::<yawsimbel::Usage>().unwrap_err();
+/// assert_eq!(refusal.to_string(), "the count differs from the occasions (7) at character 4");
+/// ```
 #[derive(Clone, Copy, Debug, PartialEq, Eq, Hash)]
+#[non_exhaustive]
 pub struct CodeRefusal {
     /// Why.
     pub reason: Reason,
     /// The character at fault, counted from 1; 0 for none.
     pub place: u64,
 }
+
+impl fmt::Display for CodeRefusal {
+    fn fmt(&self, f: &mut fmt::Formatter<'_>) -> fmt::Result {
+        match self.place {
+            0 => self.reason.fmt(f),
+            place => write!(f, "{} at character {}", self.reason, place),
+        }
+    }
+}
+
+impl Error for CodeRefusal {}

@@ -1,14 +1,24 @@
 //! Sheets, read and written.
 
+use core::error::Error;
+use core::fmt;
+use core::iter::FusedIterator;
+
 use crate::ffi;
-use crate::record::Scratch;
+use crate::record::{Lent, Scratch};
 use crate::{CodeRefusal, Reason, Record};
 
 /// Bytes of the longest file.
 pub const LONGEST_FILE: usize = ffi::FILE_MOST;
 
 /// A refusal of a sheet.
+///
+/// ```
+/// let refusal = yawsimbel::check(b"JAHIS4\r\n\x1a").unwrap_err();
+/// assert_eq!(refusal.to_string(), "the first line is not JAHIS5 (22) at byte 0");
+/// ```
 #[derive(Clone, Copy, Debug, PartialEq, Eq, Hash)]
+#[non_exhaustive]
 pub struct SheetRefusal {
     /// Why.
     pub reason: Reason,
@@ -23,7 +33,7 @@ pub struct SheetRefusal {
 impl SheetRefusal {
     fn of(number: u16, n: &ffi::Refusal) -> SheetRefusal {
         let reason = Reason::of(number);
-        let code = CodeRefusal { reason: Reason::of(n[2] as u16), place: n[3] };
+        let code = CodeRefusal { reason: Reason::of(u16::try_from(n[2]).unwrap_or(0)), place: n[3] };
         SheetRefusal {
             reason,
             offset: n[0],
@@ -31,9 +41,35 @@ impl SheetRefusal {
             code: Some(code).filter(|_| reason == Reason::Code),
         }
     }
+
+    /// Of a record that holds what this crate does not know.
+    fn not_known(offset: u64) -> SheetRefusal {
+        SheetRefusal { reason: Reason::Other, offset, field: None, code: None }
+    }
 }
 
+/// In one line, with the code's own refusal.
+impl fmt::Display for SheetRefusal {
+    fn fmt(&self, f: &mut fmt::Formatter<'_>) -> fmt::Result {
+        write!(f, "{} at byte {}", self.reason, self.offset)?;
+        if let Some(field) = self.field {
+            write!(f, ", field {}", field)?;
+        }
+        match self.code {
+            Some(code) => write!(f, ": {}", code),
+            None => Ok(()),
+        }
+    }
+}
+
+impl Error for SheetRefusal {}
+
 /// Checks a whole file and counts its records, the version line with them.
+///
+/// ```
+/// let refusal = yawsimbel::check(b"JAHIS5\r\n1,A\r\n\x1a").unwrap_err();
+/// assert_eq!((refusal.reason, refusal.offset), (yawsimbel::Reason::Missing, 13));
+/// ```
 pub fn check(file: &[u8]) -> Result<u64, SheetRefusal> {
     let mut records = 0;
     let mut refusal = [0; ffi::REFUSAL];
@@ -45,7 +81,7 @@ pub fn check(file: &[u8]) -> Result<u64, SheetRefusal> {
 
 /// The records of a file, one by one: an iterator that ends after the last record or after a refusal. It is always opened: there is no way to
 /// make one with a state of the caller's own.
-#[derive(Clone, Debug)]
+#[derive(Clone)]
 pub struct Sheet<'a> {
     file: &'a [u8],
     state: ffi::State,
@@ -74,22 +110,40 @@ impl<'a> Iterator for Sheet<'a> {
         if self.ended {
             return None;
         }
+        let offset = self.offset();
         let mut record = [0; ffi::RECORD];
         let mut refusal = [0; ffi::REFUSAL];
-        let number = ffi::sheet_next(self.file, &mut self.state, &mut record, &mut refusal);
-        self.ended = number != 0;
-        match number {
-            0 => Some(Ok(Record::of(&record, self.file))),
+        let answer = match ffi::sheet_next(self.file, &mut self.state, &mut record, &mut refusal) {
+            0 => Some(Record::of(&record, self.file).ok_or(SheetRefusal::not_known(offset))),
             ffi::END => None,
             number => Some(Err(SheetRefusal::of(number, &refusal))),
-        }
+        };
+        self.ended = !matches!(answer, Some(Ok(_)));
+        answer
     }
 }
 
-impl core::iter::FusedIterator for Sheet<'_> {}
+impl FusedIterator for Sheet<'_> {}
+
+/// Where it is, without the file's bytes.
+impl fmt::Debug for Sheet<'_> {
+    fn fmt(&self, f: &mut fmt::Formatter<'_>) -> fmt::Result {
+        let mut shown = f.debug_struct("Sheet");
+        shown.field("length", &self.file.len()).field("offset", &self.offset()).field("ended", &self.ended);
+        shown.finish_non_exhaustive()
+    }
+}
 
 /// A refusal to write. It leaves the writer and its buffer as they were.
+///
+/// ```
+/// use yawsimbel::{Reason, WriteRefusal};
+///
+/// let refusal = WriteRefusal::Record(Reason::Missing);
+/// assert_eq!(refusal.to_string(), "the reader would refuse the record here (34): a needed record is missing (32)");
+/// ```
 #[derive(Clone, Copy, Debug, PartialEq, Eq, Hash)]
+#[non_exhaustive]
 pub enum WriteRefusal {
     /// There is no room.
     Room,
@@ -101,13 +155,42 @@ impl WriteRefusal {
     fn of(number: u16, own: u64) -> WriteRefusal {
         match Reason::of(number) {
             Reason::Room => WriteRefusal::Room,
-            _ => WriteRefusal::Record(Reason::of(own as u16)),
+            _ => WriteRefusal::Record(Reason::of(u16::try_from(own).unwrap_or(0))),
+        }
+    }
+
+    /// Nothing, or a refusal.
+    fn unless_zero(number: u16, own: u64) -> Result<(), WriteRefusal> {
+        match number {
+            0 => Ok(()),
+            number => Err(WriteRefusal::of(number, own)),
         }
     }
 }
 
+/// In one line, with the reader's own reason.
+impl fmt::Display for WriteRefusal {
+    fn fmt(&self, f: &mut fmt::Formatter<'_>) -> fmt::Result {
+        match self {
+            WriteRefusal::Room => Reason::Room.fmt(f),
+            WriteRefusal::Record(own) => write!(f, "{}: {}", Reason::Record, own),
+        }
+    }
+}
+
+impl Error for WriteRefusal {}
+
 /// Writes a file into a buffer. [`LONGEST_FILE`] bytes are enough for any. It is always opened, as a [`Sheet`] is.
-#[derive(Debug)]
+///
+/// ```
+/// use yawsimbel::{KeptRecord, Writer, WriteRefusal, LONGEST_FILE};
+///
+/// let mut out = [0; LONGEST_FILE];
+/// let mut writer = Writer::open(&mut out)?;
+/// writer.put(KeptRecord::new(1, b"1,7654321,13,KITA CLINIC"))?;
+/// assert_eq!(writer.written(), b"JAHIS5\r\n1,1,7654321,13,KITA CLINIC\r\n");
+/// # Ok::<(), WriteRefusal>(())
+/// ```
 pub struct Writer<'b> {
     out: &'b mut [u8],
     state: ffi::State,
@@ -117,37 +200,39 @@ impl<'b> Writer<'b> {
     /// Begins a file with its version line.
     pub fn open(out: &'b mut [u8]) -> Result<Writer<'b>, WriteRefusal> {
         let mut state = [0; ffi::STATE];
-        match ffi::writer_open(out, &mut state) {
-            0 => Ok(Writer { out, state }),
-            number => Err(WriteRefusal::of(number, 0)),
-        }
+        let number = ffi::writer_open(out, &mut state);
+        WriteRefusal::unless_zero(number, 0)?;
+        Ok(Writer { out, state })
     }
 
     /// Writes a record.
-    pub fn put(&mut self, record: &Record<'_>) -> Result<(), WriteRefusal> {
+    pub fn put<'r>(&mut self, record: impl Into<Record<'r>>) -> Result<(), WriteRefusal> {
+        let record = record.into();
         let mut scratch = Scratch::new();
-        let (numbers, lent) = record.lent(&mut scratch);
+        let Lent { n, texts } = record.lent(&mut scratch);
         let mut own = 0;
-        let number = ffi::writer_put(self.out, &mut self.state, &numbers, lent, &mut own);
-        match number {
-            0 => Ok(()),
-            number => Err(WriteRefusal::of(number, own)),
-        }
+        let number = ffi::writer_put(self.out, &mut self.state, &n, texts, &mut own);
+        WriteRefusal::unless_zero(number, own)
     }
 
     /// Ends the file. Afterwards [`Writer::written`] is all of it.
     pub fn close(&mut self) -> Result<(), WriteRefusal> {
         let mut own = 0;
         let number = ffi::writer_close(self.out, &mut self.state, &mut own);
-        match number {
-            0 => Ok(()),
-            number => Err(WriteRefusal::of(number, own)),
-        }
+        WriteRefusal::unless_zero(number, own)
     }
 
     /// What has been written so far.
     pub fn written(&self) -> &[u8] {
         &self.out[..self.state[0] as usize]
+    }
+}
+
+/// Where it is, without the buffer's bytes.
+impl fmt::Debug for Writer<'_> {
+    fn fmt(&self, f: &mut fmt::Formatter<'_>) -> fmt::Result {
+        let mut shown = f.debug_struct("Writer");
+        shown.field("room", &self.out.len()).field("written", &self.written().len()).finish_non_exhaustive()
     }
 }
 

@@ -1,10 +1,24 @@
 //! Supplementary codes: eight characters that say on which days, or how much at which dose.
 
+use core::str::FromStr;
+
 use crate::ffi;
-use crate::{CodeRefusal, Reason};
+use crate::{Code, CodeRefusal, DatesOfMonth, Few, Reason, SupplementCode, Week};
 
 /// What a supplementary code says.
+///
+/// ```
+/// use yawsimbel::{Period, Supplement};
+///
+/// let supplement: Supplement = "I1100000".parse()?;
+/// assert_eq!(supplement, Supplement::Interval { on: 1, off: 1 });
+///
+/// let twice_a_week = Supplement::Cycle { period: Period::Week, count: 2 };
+/// assert_eq!(twice_a_week.write()?.as_str(), "CW200000");
+/// # Ok::<(), Box<dyn std::error::Error>>(())
+/// ```
 #[derive(Clone, Copy, Debug, PartialEq, Eq, Hash)]
+#[non_exhaustive]
 pub enum Supplement {
     /// `I`: so many days on, so many off.
     Interval {
@@ -13,14 +27,14 @@ pub enum Supplement {
         /// Days off.
         off: u8,
     },
-    /// `W`: days of the week, Sunday first.
-    Week([bool; 7]),
+    /// `W`: days of the week.
+    Week(Week),
     /// `D`: days of a month.
     Dates {
         /// 1 to 12; `None` for every month.
         month: Option<u8>,
-        /// The days, rising; 0 for each left over.
-        days: [u8; 6],
+        /// The days, rising.
+        days: DatesOfMonth,
     },
     /// `C`: so often in a period.
     Cycle {
@@ -52,8 +66,13 @@ pub enum Period {
     Week = b'W',
 }
 
-fn small(number: u64) -> u8 {
-    u8::try_from(number).unwrap_or(u8::MAX)
+/// A number of which 0 is none. `Some(0)` is no number, and must not become none.
+fn optional_number(number: Option<u8>) -> u64 {
+    match number {
+        None => 0,
+        Some(0) => u64::MAX,
+        Some(number) => u64::from(number),
+    }
 }
 
 impl Supplement {
@@ -62,48 +81,38 @@ impl Supplement {
         let mut numbers = [0; ffi::SUPPLEMENT];
         let mut place = 0;
         match ffi::supplement_read(code, &mut numbers, &mut place) {
-            0 => Ok(Supplement::of(&numbers)),
+            0 => Supplement::of(&numbers).ok_or(CodeRefusal { reason: Reason::Other, place: 0 }),
             number => Err(CodeRefusal { reason: Reason::of(number), place }),
         }
     }
 
-    /// Writes the code that reads as this; `None` where there is none.
-    pub fn write(&self) -> Option<[u8; 8]> {
+    /// Writes the code that reads as this; [`Reason::NoCode`] where there is none.
+    pub fn write(&self) -> Result<SupplementCode, Reason> {
         let mut code = [0; 8];
         match ffi::supplement_write(&self.numbers(), &mut code) {
-            0 => Some(code),
-            _ => None,
+            0 => Ok(Code::of(code)),
+            number => Err(Reason::of(number)),
         }
     }
 
-    /// Of the numbers that the library gives for a code that it takes.
-    pub(crate) fn of(n: &ffi::Supplement) -> Supplement {
-        match small(n[0]) {
-            b'I' => Supplement::Interval { on: small(n[1]), off: small(n[2]) },
+    /// Of the numbers that the library gives for a code that it takes; `None` where this crate does not know one.
+    pub(crate) fn of(n: &ffi::Supplement) -> Option<Supplement> {
+        let small = |at: usize| u8::try_from(n[at]).ok();
+        Some(match small(0)? {
+            b'I' => Supplement::Interval { on: small(1)?, off: small(2)? },
             b'W' => {
                 let mut week = [false; 7];
                 week.iter_mut().zip(&n[3..10]).for_each(|(day, number)| *day = *number != 0);
-                Supplement::Week(week)
+                Supplement::Week(week.into())
             }
             b'D' => {
-                let mut days = [0; 6];
-                days.iter_mut().zip(&n[11..17]).for_each(|(day, number)| *day = small(*number));
-                Supplement::Dates { month: Some(small(n[10])).filter(|month| *month != 0), days }
+                let days = Few::of((11..17).map(|at| small(at).filter(|day| *day != 0)));
+                Supplement::Dates { month: Some(small(10)?).filter(|month| *month != 0), days }
             }
-            b'C' => {
-                let period = match small(n[17]) {
-                    b'Y' => Period::Year,
-                    b'M' => Period::Month,
-                    _ => Period::Week,
-                };
-                Supplement::Cycle { period, count: small(n[18]) }
-            }
-            _ => Supplement::Unequal {
-                order: small(n[19]),
-                digits: u32::try_from(n[20]).unwrap_or(u32::MAX),
-                places: small(n[21]),
-            },
-        }
+            b'C' => Supplement::Cycle { period: Period::of(small(17)?)?, count: small(18)? },
+            b'V' => Supplement::Unequal { order: small(19)?, digits: n[20].try_into().ok()?, places: small(21)? },
+            _ => return None,
+        })
     }
 
     pub(crate) fn numbers(&self) -> ffi::Supplement {
@@ -111,35 +120,57 @@ impl Supplement {
         match *self {
             Supplement::Interval { on, off } => {
                 n[0] = u64::from(b'I');
-                n[1] = u64::from(on);
-                n[2] = u64::from(off);
+                n[1..3].copy_from_slice(&[on.into(), off.into()]);
             }
             Supplement::Week(week) => {
                 n[0] = u64::from(b'W');
-                n[3..10].iter_mut().zip(week).for_each(|(number, day)| *number = u64::from(day));
+                n[3..10].copy_from_slice(&<[bool; 7]>::from(week).map(u64::from));
             }
             Supplement::Dates { month, days } => {
                 n[0] = u64::from(b'D');
-                // `Some(0)` is no month, and must not become every month.
-                n[10] = match month {
-                    None => 0,
-                    Some(0) => u64::MAX,
-                    Some(month) => u64::from(month),
-                };
-                n[11..17].iter_mut().zip(days).for_each(|(number, day)| *number = u64::from(day));
+                n[10] = optional_number(month);
+                let days = days.as_slice().iter().map(|day| optional_number(Some(*day)));
+                n[11..17].iter_mut().zip(days).for_each(|(number, day)| *number = day);
             }
             Supplement::Cycle { period, count } => {
                 n[0] = u64::from(b'C');
-                n[17] = period as u64;
-                n[18] = u64::from(count);
+                n[17..19].copy_from_slice(&[period as u64, count.into()]);
             }
             Supplement::Unequal { order, digits, places } => {
                 n[0] = u64::from(b'V');
-                n[19] = u64::from(order);
-                n[20] = u64::from(digits);
-                n[21] = u64::from(places);
+                n[19..22].copy_from_slice(&[order.into(), digits.into(), places.into()]);
             }
         }
         n
+    }
+}
+
+impl Period {
+    fn of(letter: u8) -> Option<Period> {
+        [Period::Year, Period::Month, Period::Week].into_iter().find(|period| *period as u8 == letter)
+    }
+}
+
+impl TryFrom<&[u8]> for Supplement {
+    type Error = CodeRefusal;
+
+    fn try_from(code: &[u8]) -> Result<Supplement, CodeRefusal> {
+        Supplement::read(code)
+    }
+}
+
+impl FromStr for Supplement {
+    type Err = CodeRefusal;
+
+    fn from_str(code: &str) -> Result<Supplement, CodeRefusal> {
+        Supplement::read(code.as_bytes())
+    }
+}
+
+impl TryFrom<Supplement> for SupplementCode {
+    type Error = Reason;
+
+    fn try_from(supplement: Supplement) -> Result<SupplementCode, Reason> {
+        supplement.write()
     }
 }

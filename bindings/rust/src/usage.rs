@@ -1,32 +1,37 @@
 //! Usage codes: sixteen characters that say how and when a drug is taken.
 
 use core::ops::Range;
+use core::str::FromStr;
 
 use crate::ffi;
-use crate::{CodeRefusal, Reason};
+use crate::{Class, Code, CodeRefusal, Condition, Detail, Event, Few, Hours, Reason, UsageCode};
 
 /// What a usage code says.
+///
+/// ```
+/// use yawsimbel::{Detail, Meal, Timing, Usage};
+///
+/// let usage: Usage = "1013044400000000".parse()?;
+/// assert_eq!(usage.detail, Detail::ByMouth);
+/// assert_eq!(usage.times(), Some(3));
+/// assert!(matches!(usage.timing, Timing::Meals { lunch: Some(Meal::After), bedtime: false, .. }));
+///
+/// let eye_drops = Usage::new(Detail::EyeDrops, Timing::Count { times: 4, about: Default::default() });
+/// assert_eq!(eye_drops.write()?.as_str(), "2H74000000000000");
+/// # Ok::<(), Box<dyn std::error::Error>>(())
+/// ```
 #[derive(Clone, Copy, Debug, PartialEq, Eq, Hash)]
+#[non_exhaustive]
 pub struct Usage {
-    /// Oral or external.
-    pub class: Class,
-    /// The second character: oral `0` to `3`, external a letter.
-    pub detail: u8,
+    /// In which way, by mouth or on the body.
+    pub detail: Detail,
     /// When.
     pub timing: Timing,
 }
 
-/// How a drug is taken.
-#[derive(Clone, Copy, Debug, PartialEq, Eq, Hash)]
-pub enum Class {
-    /// By mouth.
-    Oral,
-    /// On the body.
-    External,
-}
-
 /// When a drug is taken. Hours are 0 to 23.
 #[derive(Clone, Copy, Debug, PartialEq, Eq, Hash)]
+#[non_exhaustive]
 pub enum Timing {
     /// Kind 1: by meals, bedtime and waking.
     Meals {
@@ -50,27 +55,29 @@ pub enum Timing {
         /// The first hour.
         start: Option<u8>,
     },
-    /// Kind 3: at hours, rising; `None` for each left over.
-    Hours([Option<u8>; 8]),
-    /// Kind 5: on an event, in the characters of the code.
+    /// Kind 3: at hours, rising.
+    Hours(Hours),
+    /// Kind 5: on an event.
     Event {
-        /// The row of table 8.
-        row: [u8; 3],
-        /// The interval.
-        interval: u8,
-        /// The limit.
-        limit: u8,
+        /// The event.
+        event: Event,
+        /// Under which condition.
+        condition: Condition,
+        /// How many hours apart at least.
+        interval: Option<u8>,
+        /// How often a day at most.
+        limit: Option<u8>,
     },
     /// Kind 6: by parts of the day.
     Parts {
         /// At bedtime.
         bedtime: bool,
-        /// In the evening.
-        evening: Option<Part>,
+        /// In the evening or afternoon.
+        evening: Option<Evening>,
         /// At noon.
         noon: bool,
-        /// In the morning.
-        morning: Option<Part>,
+        /// In the morning or forenoon.
+        morning: Option<Morning>,
         /// On waking.
         waking: bool,
         /// At an hour as well.
@@ -80,13 +87,13 @@ pub enum Timing {
     Count {
         /// Times a day.
         times: u8,
-        /// The pair's second character.
-        about: u8,
+        /// How exactly.
+        about: About,
     },
 }
 
 /// When about a meal.
-#[derive(Clone, Copy, Debug, PartialEq, Eq, Hash)]
+#[derive(Clone, Copy, Debug, PartialEq, Eq, PartialOrd, Ord, Hash)]
 #[repr(u8)]
 pub enum Meal {
     /// Before it.
@@ -103,37 +110,57 @@ pub enum Meal {
     During = 6,
 }
 
-/// Which mark a part of the day has.
-#[derive(Clone, Copy, Debug, PartialEq, Eq, Hash)]
+/// The later part of the day.
+#[derive(Clone, Copy, Debug, PartialEq, Eq, PartialOrd, Ord, Hash)]
 #[repr(u8)]
-pub enum Part {
-    /// `9`
-    Nine = 9,
-    /// `A`
-    A = 10,
+pub enum Evening {
+    /// In the evening (夕), `9`.
+    Evening = 9,
+    /// In the afternoon (午後), `A`.
+    Afternoon = 10,
+}
+
+/// The earlier part of the day.
+#[derive(Clone, Copy, Debug, PartialEq, Eq, PartialOrd, Ord, Hash)]
+#[repr(u8)]
+pub enum Morning {
+    /// In the morning (朝), `9`.
+    Morning = 9,
+    /// In the forenoon (午前), `A`.
+    Forenoon = 10,
+}
+
+/// How exactly a count of kind 7 is meant.
+#[derive(Clone, Copy, Debug, Default, PartialEq, Eq, Hash)]
+#[non_exhaustive]
+pub enum About {
+    /// So often.
+    #[default]
+    Exactly,
+    /// About so often (程度).
+    About,
+    /// So often, or up to as often as this.
+    UpTo(u8),
+    /// So often, or several times (数回).
+    OrSeveral,
 }
 
 /// An hour's number where there is none.
 const NO_HOUR: u64 = 24;
 
+/// What no code has, so the library says so.
+const NO_VALUE: u64 = u64::MAX;
+
 /// Where the hours of kind 3 stand among a code's numbers.
 const HOURS: Range<usize> = 17..25;
 
-pub(crate) fn character(value: u64) -> u8 {
-    match value {
-        0..=9 => b'0' + value as u8,
-        10..=35 => b'A' + (value - 10) as u8,
-        _ => b'?',
-    }
+/// The character of a value, `0` to `9`, `A` to `Z`.
+fn character(value: u64) -> Option<char> {
+    char::from_digit(u32::try_from(value).ok()?, 36).map(|digit| digit.to_ascii_uppercase())
 }
 
-fn value(character: u8) -> u64 {
-    match character {
-        b'0'..=b'9' => u64::from(character - b'0'),
-        b'A'..=b'Z' => u64::from(character - b'A') + 10,
-        // No code has it, so the library says so.
-        _ => u64::MAX,
-    }
+fn value(character: char) -> u64 {
+    character.to_digit(36).map_or(NO_VALUE, u64::from)
 }
 
 fn hour(number: u64) -> Option<u8> {
@@ -149,140 +176,93 @@ fn hour_number(hour: Option<u8>) -> u64 {
     }
 }
 
-fn meal(number: u64) -> Option<Meal> {
-    Some(match number {
-        1 => Meal::Before,
-        2 => Meal::JustBefore,
-        3 => Meal::JustAfter,
-        4 => Meal::After,
-        5 => Meal::TwoHoursAfter,
-        6 => Meal::During,
-        _ => return None,
-    })
+/// A number of which 0 is none. `Some(0)` is no number, and must not become none.
+fn optional_number(number: Option<u8>) -> u64 {
+    match number {
+        None => 0,
+        Some(0) => NO_VALUE,
+        Some(number) => u64::from(number),
+    }
 }
 
-fn part(number: u64) -> Option<Part> {
+impl Meal {
+    /// `Some(None)` where none is meant, `None` for a number that is none of these.
+    fn of(number: u64) -> Option<Option<Meal>> {
+        use Meal::*;
+        named(number, [Before, JustBefore, JustAfter, After, TwoHoursAfter, During], |meal| meal as u64)
+    }
+}
+
+impl Evening {
+    fn of(number: u64) -> Option<Option<Evening>> {
+        named(number, [Evening::Evening, Evening::Afternoon], |part| part as u64)
+    }
+}
+
+impl Morning {
+    fn of(number: u64) -> Option<Option<Morning>> {
+        named(number, [Morning::Morning, Morning::Forenoon], |part| part as u64)
+    }
+}
+
+/// Which of these has the number; 0 is none of them by intent, and any other number is not known.
+fn named<T: Copy, const N: usize>(number: u64, all: [T; N], number_of: impl Fn(T) -> u64) -> Option<Option<T>> {
     match number {
-        9 => Some(Part::Nine),
-        10 => Some(Part::A),
-        _ => None,
+        0 => Some(None),
+        number => all.into_iter().find(|each| number_of(*each) == number).map(Some),
+    }
+}
+
+impl About {
+    fn of(number: u64) -> Option<About> {
+        Some(match character(number)? {
+            '0' => About::Exactly,
+            'A' => About::About,
+            'N' => About::OrSeveral,
+            '1'..='9' => About::UpTo(number as u8),
+            _ => return None,
+        })
+    }
+
+    fn number(self) -> u64 {
+        match self {
+            About::Exactly => 0,
+            About::About => value('A'),
+            About::OrSeveral => value('N'),
+            About::UpTo(times @ 1..=9) => u64::from(times),
+            About::UpTo(_) => NO_VALUE,
+        }
     }
 }
 
 impl Usage {
+    /// A usage; whether a code reads as it is seen when it is written.
+    pub const fn new(detail: Detail, timing: Timing) -> Usage {
+        Usage { detail, timing }
+    }
+
     /// Reads a code.
     pub fn read(code: &[u8]) -> Result<Usage, CodeRefusal> {
         let mut numbers = [0; ffi::USAGE];
         let mut place = 0;
         match ffi::usage_read(code, &mut numbers, &mut place) {
-            0 => Ok(Usage::of(&numbers)),
+            0 => Usage::of(&numbers).ok_or(CodeRefusal { reason: Reason::Other, place: 0 }),
             number => Err(CodeRefusal { reason: Reason::of(number), place }),
         }
     }
 
-    /// Writes the code that reads as this; `None` where there is none.
-    pub fn write(&self) -> Option<[u8; 16]> {
+    /// Writes the code that reads as this; [`Reason::NoCode`] where there is none.
+    pub fn write(&self) -> Result<UsageCode, Reason> {
         let mut code = [0; 16];
         match ffi::usage_write(&self.numbers(), &mut code) {
-            0 => Some(code),
-            _ => None,
+            0 => Ok(Code::of(code)),
+            number => Err(Reason::of(number)),
         }
     }
 
-    /// Of the numbers that the library gives for a code that it takes.
-    pub(crate) fn of(n: &ffi::Usage) -> Usage {
-        let times = u8::try_from(n[3]).unwrap_or(0);
-        let timing = match n[2] {
-            1 => Timing::Meals {
-                bedtime: n[4] != 0,
-                supper: meal(n[5]),
-                lunch: meal(n[6]),
-                breakfast: meal(n[7]),
-                waking: n[8] != 0,
-                at_fifteen: n[9] != NO_HOUR,
-            },
-            2 => Timing::Even { times, start: hour(n[10]) },
-            3 => {
-                let mut hours = [None; 8];
-                hours.iter_mut().zip(&n[HOURS]).for_each(|(cell, number)| *cell = hour(*number));
-                Timing::Hours(hours)
-            }
-            5 => Timing::Event {
-                row: [character(n[11]), character(n[12]), character(n[13])],
-                interval: character(n[14]),
-                limit: character(n[15]),
-            },
-            6 => Timing::Parts {
-                bedtime: n[4] != 0,
-                evening: part(n[5]),
-                noon: n[6] != 0,
-                morning: part(n[7]),
-                waking: n[8] != 0,
-                hour: hour(n[9]),
-            },
-            _ => Timing::Count { times, about: character(n[16]) },
-        };
-        let class = if n[0] == 1 { Class::Oral } else { Class::External };
-        Usage { class, detail: character(n[1]), timing }
-    }
-
-    pub(crate) fn numbers(&self) -> ffi::Usage {
-        let mut n = [0; ffi::USAGE];
-        n[9..11].fill(NO_HOUR);
-        n[HOURS].fill(NO_HOUR);
-        n[0] = match self.class {
-            Class::Oral => 1,
-            Class::External => 2,
-        };
-        n[1] = value(self.detail);
-        match self.timing {
-            Timing::Meals { bedtime, supper, lunch, breakfast, waking, at_fifteen } => {
-                let meal = |meal: Option<Meal>| meal.map_or(0, |meal| meal as u64);
-                n[2] = 1;
-                n[4..9].copy_from_slice(&[
-                    u64::from(bedtime),
-                    meal(supper),
-                    meal(lunch),
-                    meal(breakfast),
-                    u64::from(waking),
-                ]);
-                n[9] = if at_fifteen { 15 } else { NO_HOUR };
-                n[3] = occasions(&n);
-            }
-            Timing::Even { times, start } => {
-                n[2] = 2;
-                n[3] = u64::from(times);
-                n[10] = hour_number(start);
-            }
-            Timing::Hours(hours) => {
-                n[2] = 3;
-                n[3] = hours.iter().flatten().count() as u64;
-                n[HOURS].iter_mut().zip(hours).for_each(|(cell, hour)| *cell = hour_number(hour));
-            }
-            Timing::Event { row, interval, limit } => {
-                n[2] = 5;
-                n[11..16].copy_from_slice(&[row[0], row[1], row[2], interval, limit].map(value));
-            }
-            Timing::Parts { bedtime, evening, noon, morning, waking, hour } => {
-                let part = |part: Option<Part>| part.map_or(0, |part| part as u64);
-                n[2] = 6;
-                n[4..9].copy_from_slice(&[
-                    u64::from(bedtime),
-                    part(evening),
-                    u64::from(noon),
-                    part(morning),
-                    u64::from(waking),
-                ]);
-                n[9] = hour_number(hour);
-                n[3] = occasions(&n);
-            }
-            Timing::Count { times, about } => {
-                n[2] = 7;
-                n[3] = u64::from(times);
-                n[16] = value(about);
-            }
-        }
-        n
+    /// By mouth or on the body.
+    pub const fn class(&self) -> Class {
+        self.detail.class()
     }
 
     /// Times a day; `None` for an event, which has none.
@@ -292,9 +272,135 @@ impl Usage {
             _ => u8::try_from(self.numbers()[3]).ok(),
         }
     }
+
+    /// Of the numbers that the library gives for a code that it takes; `None` where this crate does not know one.
+    pub(crate) fn of(n: &ffi::Usage) -> Option<Usage> {
+        let class = match n[0] {
+            1 => Class::Oral,
+            2 => Class::External,
+            _ => return None,
+        };
+        Some(Usage { detail: Detail::of(class, character(n[1])?)?, timing: Timing::of(n)? })
+    }
+
+    pub(crate) fn numbers(&self) -> ffi::Usage {
+        let mut n = [0; ffi::USAGE];
+        n[9..11].fill(NO_HOUR);
+        n[HOURS].fill(NO_HOUR);
+        n[0] = match self.class() {
+            Class::Oral => 1,
+            Class::External => 2,
+        };
+        n[1] = value(self.detail.character());
+        self.timing.put(&mut n);
+        n
+    }
+}
+
+impl Timing {
+    fn of(n: &ffi::Usage) -> Option<Timing> {
+        let times = u8::try_from(n[3]).ok()?;
+        Some(match n[2] {
+            1 => Timing::Meals {
+                bedtime: n[4] != 0,
+                supper: Meal::of(n[5])?,
+                lunch: Meal::of(n[6])?,
+                breakfast: Meal::of(n[7])?,
+                waking: n[8] != 0,
+                at_fifteen: n[9] != NO_HOUR,
+            },
+            2 => Timing::Even { times, start: hour(n[10]) },
+            3 => Timing::Hours(Few::of(n[HOURS].iter().map(|number| hour(*number)))),
+            5 => Timing::Event {
+                event: Event::of([character(n[11])?, character(n[12])?])?,
+                condition: Condition::of(u8::try_from(n[13]).ok()?)?,
+                interval: Some(u8::try_from(n[14]).ok()?).filter(|hours| *hours != 0),
+                limit: Some(u8::try_from(n[15]).ok()?).filter(|times| *times != 0),
+            },
+            6 => Timing::Parts {
+                bedtime: n[4] != 0,
+                evening: Evening::of(n[5])?,
+                noon: n[6] != 0,
+                morning: Morning::of(n[7])?,
+                waking: n[8] != 0,
+                hour: hour(n[9]),
+            },
+            7 => Timing::Count { times, about: About::of(n[16])? },
+            _ => return None,
+        })
+    }
+
+    /// Its numbers among those of a code, in which no hour stands yet.
+    fn put(&self, n: &mut ffi::Usage) {
+        match *self {
+            Timing::Meals { bedtime, supper, lunch, breakfast, waking, at_fifteen } => {
+                let [supper, lunch, breakfast] =
+                    [supper, lunch, breakfast].map(|meal| meal.map_or(0, |meal| meal as u64));
+                n[2] = 1;
+                n[4..9].copy_from_slice(&[bedtime.into(), supper, lunch, breakfast, waking.into()]);
+                n[9] = if at_fifteen { 15 } else { NO_HOUR };
+                n[3] = occasions(n);
+            }
+            Timing::Even { times, start } => {
+                n[2] = 2;
+                n[3] = u64::from(times);
+                n[10] = hour_number(start);
+            }
+            Timing::Hours(hours) => {
+                n[2] = 3;
+                n[3] = hours.as_slice().len() as u64;
+                let hours = hours.as_slice().iter().map(|hour| hour_number(Some(*hour)));
+                n[HOURS].iter_mut().zip(hours).for_each(|(cell, hour)| *cell = hour);
+            }
+            Timing::Event { event, condition, interval, limit } => {
+                let [first, second] = event.characters().map(value);
+                n[2] = 5;
+                let interval_and_limit = [interval, limit].map(optional_number);
+                n[11..14].copy_from_slice(&[first, second, condition as u64]);
+                n[14..16].copy_from_slice(&interval_and_limit);
+            }
+            Timing::Parts { bedtime, evening, noon, morning, waking, hour } => {
+                let evening = evening.map_or(0, |part| part as u64);
+                let morning = morning.map_or(0, |part| part as u64);
+                n[2] = 6;
+                n[4..9].copy_from_slice(&[bedtime.into(), evening, noon.into(), morning, waking.into()]);
+                n[9] = hour_number(hour);
+                n[3] = occasions(n);
+            }
+            Timing::Count { times, about } => {
+                n[2] = 7;
+                n[3] = u64::from(times);
+                n[16] = about.number();
+            }
+        }
+    }
 }
 
 /// How many occasions of kinds 1 and 6 stand.
 fn occasions(n: &ffi::Usage) -> u64 {
     n[4..9].iter().filter(|number| **number != 0).count() as u64 + u64::from(n[9] != NO_HOUR)
+}
+
+impl TryFrom<&[u8]> for Usage {
+    type Error = CodeRefusal;
+
+    fn try_from(code: &[u8]) -> Result<Usage, CodeRefusal> {
+        Usage::read(code)
+    }
+}
+
+impl FromStr for Usage {
+    type Err = CodeRefusal;
+
+    fn from_str(code: &str) -> Result<Usage, CodeRefusal> {
+        Usage::read(code.as_bytes())
+    }
+}
+
+impl TryFrom<Usage> for UsageCode {
+    type Error = Reason;
+
+    fn try_from(usage: Usage) -> Result<UsageCode, Reason> {
+        usage.write()
+    }
 }
