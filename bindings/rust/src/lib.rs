@@ -20,9 +20,14 @@
 //! let refusal = drugs(b"JAHIS4\r\n\x1a").unwrap_err();
 //! assert_eq!(refusal.to_string(), "the first line is not JAHIS5 (22) at byte 0");
 //! ```
+//!
+//! With the feature `utf8` (in `utf8/Cargo.toml`; off by default) `Text::to_str` hands a text out as a `str`.
 #![no_std]
 #![deny(unsafe_code)]
 #![warn(missing_docs)]
+
+#[cfg(feature = "utf8")]
+extern crate alloc;
 
 mod amount;
 mod code;
@@ -39,6 +44,8 @@ mod sheet;
 mod supplement;
 mod text;
 mod usage;
+#[cfg(feature = "utf8")]
+mod utf8;
 mod week;
 
 pub use amount::Amount;
@@ -55,4 +62,6 @@ pub use sheet::{check, Sheet, SheetRefusal, WriteRefusal, Writer, LONGEST_FILE};
 pub use supplement::{Period, Supplement};
 pub use text::Text;
 pub use usage::{About, Evening, Meal, Morning, Timing, Usage};
+#[cfg(feature = "utf8")]
+pub use utf8::TextRefusal;
 pub use week::{Week, Weekday};

@@ -9,7 +9,7 @@ use core::fmt;
 ///
 /// let text = Text::from(b"\x8f\xf9 A");
 /// assert_eq!(text.as_bytes(), b"\x8f\xf9 A");
-/// assert_eq!(format!("{text:?}"), r#""\x8f\xf9 A""#);
+/// assert_eq!(text.len(), 4);
 /// ```
 #[derive(Clone, Copy, Default, PartialEq, Eq, PartialOrd, Ord, Hash)]
 pub struct Text<'a>(&'a [u8]);
@@ -49,9 +49,13 @@ impl AsRef<[u8]> for Text<'_> {
     }
 }
 
-/// ASCII as it is, any other byte as `\x8f`.
+/// ASCII as it is, any other byte as `\x8f`; with the feature `utf8` the characters that it has.
 impl fmt::Debug for Text<'_> {
     fn fmt(&self, f: &mut fmt::Formatter<'_>) -> fmt::Result {
+        #[cfg(feature = "utf8")]
+        if let Ok(text) = self.to_str() {
+            return fmt::Debug::fmt(&text, f);
+        }
         write!(f, "\"{}\"", self.0.escape_ascii())
     }
 }

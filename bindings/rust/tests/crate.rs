@@ -261,6 +261,11 @@ fn refusals() {
     assert_eq!(check(&[b'a'; LONGEST_FILE + 1]).unwrap_err().reason, Reason::TooLong);
 }
 
+#[test]
+fn texts_show_themselves() {
+    assert_eq!(format!("{:?}", Text::from(b"\x8f\xf9 A\"")), r#""\x8f\xf9 A\"""#);
+}
+
 /// A sheet that is taken, written again record by record.
 fn rewritten(sheet: &[u8]) -> Vec<u8> {
     let mut out = vec![0; LONGEST_FILE];
