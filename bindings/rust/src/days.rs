@@ -107,7 +107,7 @@ pub struct DaySet {
 ///
 /// ```
 /// let refusal = yawsimbel::DaySet::read(1, b"DCAKU000D1FU0000").unwrap_err();
-/// assert_eq!(refusal.to_string(), "the codes up to this one begin no allowed run (12) at code 2");
+/// assert_eq!(refusal.to_string(), "the date codes do not follow each other, or there are none (12) at code 2");
 /// ```
 #[derive(Clone, Copy, Debug, PartialEq, Eq, Hash)]
 #[non_exhaustive]

@@ -10,7 +10,7 @@ use core::fmt;
 ///
 /// assert_eq!(Reason::Count.number(), 7);
 /// assert_eq!(Reason::of(7), Reason::Count);
-/// assert_eq!(Reason::Count.to_string(), "the count differs from the occasions (7)");
+/// assert_eq!(Reason::Count.to_string(), "the times a day differ from the occasions that the code names (7)");
 /// ```
 #[derive(Clone, Copy, Debug, PartialEq, Eq, PartialOrd, Ord, Hash)]
 #[non_exhaustive]
@@ -97,32 +97,32 @@ impl Reason {
     pub const fn words(self) -> &'static str {
         match self {
             Reason::Length => "the code is not 16 or 8 characters long, or the run is not whole codes",
-            Reason::First => "the 1st character is unknown",
-            Reason::Detail => "the 2nd character is unknown",
-            Reason::Timing => "the 3rd character is unknown",
-            Reason::Character => "the character is outside its set",
-            Reason::Unused => "an unused character is not 0",
-            Reason::Count => "the count differs from the occasions",
-            Reason::Rule => "15 h without a full day, no such table row, pair or day, or an empty week",
-            Reason::Rising => "the hour or day does not rise",
+            Reason::First => "the 1st character of the code is unknown",
+            Reason::Detail => "the 2nd character of the usage code, how it is used, is unknown",
+            Reason::Timing => "the 3rd character of the usage code, its timing, is unknown",
+            Reason::Character => "the code has a character that may not stand there",
+            Reason::Unused => "an unused character of the code is not 0",
+            Reason::Count => "the times a day differ from the occasions that the code names",
+            Reason::Rule => "no such event, count or day, an empty week, or 15 h where it may not stand",
+            Reason::Rising => "the hours or days do not rise",
             Reason::IssueMonth => "the issue month is not 1 to 12",
-            Reason::DaySet => "the set of days cannot be written",
-            Reason::Run => "the codes up to this one begin no allowed run",
-            Reason::TooLong => "the file is too long",
-            Reason::Frame => "the file is not lines ended by CR LF, then one 1Ah",
+            Reason::DaySet => "no date codes can name this set of days",
+            Reason::Run => "the date codes do not follow each other, or there are none",
+            Reason::TooLong => "the file is longer than 16384 bytes",
+            Reason::Frame => "the file is cut short, or has a byte that no sheet has",
             Reason::Version => "the first line is not JAHIS5",
-            Reason::Unknown => "the record number is unknown",
+            Reason::Unknown => "there is no such record number",
             Reason::Order => "the record is out of order",
-            Reason::Fields => "the record has another number of fields",
-            Reason::Text => "the text is badly formed, has a space at an end, or is too long",
-            Reason::Value => "no such number, date, amount, site or drug code",
-            Reason::Present => "a required field is empty, or a forbidden one filled",
-            Reason::Code => "the code is refused",
-            Reason::Counter => "the RP number or serial is not as ordered",
-            Reason::Schedule => "the supplement is not allowed after those before it in its RP",
+            Reason::Fields => "the record has too few or too many fields",
+            Reason::Text => "the text has bad characters or a space at an end, or is too long",
+            Reason::Value => "no such number, date, amount, site or drug code may stand here",
+            Reason::Present => "a required field is empty, or one that must be empty is filled",
+            Reason::Code => "the usage or supplementary code is refused",
+            Reason::Counter => "the RP number or the serial is not one that may follow here",
+            Reason::Schedule => "the supplement does not go with those before it in its RP",
             Reason::Missing => "a needed record is missing",
-            Reason::Room => "there is no room",
-            Reason::Record => "the reader would refuse the record here",
+            Reason::Room => "the buffer has no room",
+            Reason::Record => "the record would be refused when it is read",
             Reason::NoCode => "no code reads as this",
             Reason::Other => "the library says what this crate does not know",
         }
@@ -148,7 +148,7 @@ impl From<Reason> for u16 {
 ///
 /// ```
 /// let refusal = "1012044400000000".parse::<yawsimbel::Usage>().unwrap_err();
-/// assert_eq!(refusal.to_string(), "the count differs from the occasions (7) at character 4");
+/// assert_eq!(refusal.to_string(), "the times a day differ from the occasions that the code names (7) at character 4");
 /// ```
 #[derive(Clone, Copy, Debug, PartialEq, Eq, Hash)]
 #[non_exhaustive]

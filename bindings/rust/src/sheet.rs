@@ -140,7 +140,7 @@ impl fmt::Debug for Sheet<'_> {
 /// use yawsimbel::{Reason, WriteRefusal};
 ///
 /// let refusal = WriteRefusal::Record(Reason::Missing);
-/// assert_eq!(refusal.to_string(), "the reader would refuse the record here (34): a needed record is missing (32)");
+/// assert_eq!(refusal.to_string(), "the record would be refused when it is read (34): a needed record is missing (32)");
 /// ```
 #[derive(Clone, Copy, Debug, PartialEq, Eq, Hash)]
 #[non_exhaustive]

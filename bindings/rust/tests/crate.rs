@@ -246,8 +246,8 @@ fn refusals() {
     let refusal = check(&sheet).unwrap_err();
     assert_eq!((refusal.reason, refusal.offset, refusal.field), (Reason::Code, 121, Some(3)));
     assert_eq!(refusal.code.map(|code| (code.reason, code.place)), Some((Reason::Count, 4)));
-    let words =
-        "the code is refused (29) at byte 121, field 3: the count differs from the occasions (7) at character 4";
+    let words = "the usage or supplementary code is refused (29) at byte 121, field 3: \
+                 the times a day differ from the occasions that the code names (7) at character 4";
     assert_eq!(refusal.to_string(), words);
     let mut records = Sheet::open(&sheet);
     assert_eq!(records.by_ref().filter(Result::is_ok).count(), 9);
