@@ -69,8 +69,17 @@ impl<const N: usize> AsRef<[u8]> for Few<N> {
     }
 }
 
+impl<'a, const N: usize> IntoIterator for &'a Few<N> {
+    type Item = &'a u8;
+    type IntoIter = core::slice::Iter<'a, u8>;
+
+    fn into_iter(self) -> Self::IntoIter {
+        self.as_slice().iter()
+    }
+}
+
 impl<const N: usize> fmt::Debug for Few<N> {
     fn fmt(&self, f: &mut fmt::Formatter<'_>) -> fmt::Result {
-        f.debug_list().entries(self.as_slice()).finish()
+        f.debug_list().entries(self).finish()
     }
 }

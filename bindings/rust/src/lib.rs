@@ -64,4 +64,4 @@ pub use text::Text;
 pub use usage::{About, Evening, Meal, Morning, Timing, Usage};
 #[cfg(feature = "utf8")]
 pub use utf8::TextRefusal;
-pub use week::{Week, Weekday};
+pub use week::{Week, WeekIter, Weekday};

@@ -138,6 +138,13 @@ impl fmt::Display for Reason {
 
 impl Error for Reason {}
 
+/// As [`Reason::of`].
+impl From<u16> for Reason {
+    fn from(number: u16) -> Reason {
+        Reason::of(number)
+    }
+}
+
 impl From<Reason> for u16 {
     fn from(reason: Reason) -> u16 {
         reason.number()

@@ -144,6 +144,7 @@ impl<'a> RpRecord<'a> {
     }
 
     /// The same with this name of its form.
+    #[must_use]
     pub fn form_name(self, form_name: impl Into<Text<'a>>) -> RpRecord<'a> {
         RpRecord { form_name: form_name.into(), ..self }
     }
@@ -156,11 +157,13 @@ impl<'a> UsageRecord<'a> {
     }
 
     /// The same with this code.
+    #[must_use]
     pub fn code(self, code: Usage) -> UsageRecord<'a> {
         UsageRecord { code: Some(code), ..self }
     }
 
     /// The same with so many times per day.
+    #[must_use]
     pub fn times(self, times: u16) -> UsageRecord<'a> {
         UsageRecord { times: Some(times), ..self }
     }
@@ -173,6 +176,7 @@ impl<'a> SupplementRecord<'a> {
     }
 
     /// The same of this kind.
+    #[must_use]
     pub fn kind(self, kind: SupplementKind<'a>) -> SupplementRecord<'a> {
         SupplementRecord { kind, ..self }
     }
@@ -194,21 +198,25 @@ impl<'a> DrugRecord<'a> {
     }
 
     /// The same of this kind.
+    #[must_use]
     pub fn kind(self, kind: DrugKind) -> DrugRecord<'a> {
         DrugRecord { kind: Some(kind), ..self }
     }
 
     /// The same with this code.
+    #[must_use]
     pub fn code(self, code: DrugCode<'a>) -> DrugRecord<'a> {
         DrugRecord { code, ..self }
     }
 
     /// The same with this name.
+    #[must_use]
     pub fn name(self, name: impl Into<Text<'a>>) -> DrugRecord<'a> {
         DrugRecord { name: name.into(), ..self }
     }
 
     /// The same, its amount counting this.
+    #[must_use]
     pub fn amount_of(self, amount_of: AmountOf) -> DrugRecord<'a> {
         DrugRecord { amount_of, ..self }
     }

@@ -81,7 +81,18 @@ pub fn check(file: &[u8]) -> Result<u64, SheetRefusal> {
 
 /// The records of a file, one by one: an iterator that ends after the last record or after a refusal. It is always opened: there is no way to
 /// make one with a state of the caller's own.
+///
+/// ```
+/// use yawsimbel::{KeptRecord, Reason, Sheet};
+///
+/// let mut sheet = Sheet::open(b"JAHIS5\r\n1,A\r\n\x1a");
+/// assert_eq!(sheet.next(), Some(Ok(KeptRecord::new(1, b"A").into())));
+/// // A refusal ends it: this one says that the sheet ends too early.
+/// assert_eq!(sheet.next().unwrap().unwrap_err().reason, Reason::Missing);
+/// assert_eq!(sheet.next(), None);
+/// ```
 #[derive(Clone)]
+#[must_use]
 pub struct Sheet<'a> {
     file: &'a [u8],
     state: ffi::State,

@@ -30,6 +30,15 @@ pub struct Usage {
 }
 
 /// When a drug is taken. Hours are 0 to 23.
+///
+/// ```
+/// use yawsimbel::{Condition, Event, Timing, Usage};
+///
+/// let usage: Usage = "1050120630000000".parse()?;
+/// let (interval, limit) = (Some(6), Some(3));
+/// assert_eq!(usage.timing, Timing::Event { event: Event::Headache, condition: Condition::May, interval, limit });
+/// # Ok::<(), yawsimbel::CodeRefusal>(())
+/// ```
 #[derive(Clone, Copy, Debug, PartialEq, Eq, Hash)]
 #[non_exhaustive]
 pub enum Timing {

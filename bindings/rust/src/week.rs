@@ -1,6 +1,7 @@
 //! Days of the week.
 
 use core::fmt;
+use core::iter::FusedIterator;
 
 /// A day of the week.
 #[derive(Clone, Copy, Debug, PartialEq, Eq, PartialOrd, Ord, Hash)]
@@ -55,10 +56,46 @@ impl Week {
     }
 
     /// The days, Sunday first.
-    pub fn iter(&self) -> impl Iterator<Item = Weekday> + '_ {
-        Weekday::ALL.into_iter().filter(|day| self.contains(*day))
+    pub fn iter(&self) -> WeekIter {
+        WeekIter { left: self.0, at: 0 }
     }
 }
+
+impl IntoIterator for Week {
+    type Item = Weekday;
+    type IntoIter = WeekIter;
+
+    fn into_iter(self) -> WeekIter {
+        self.iter()
+    }
+}
+
+impl IntoIterator for &Week {
+    type Item = Weekday;
+    type IntoIter = WeekIter;
+
+    fn into_iter(self) -> WeekIter {
+        self.iter()
+    }
+}
+
+/// The days of a [`Week`].
+#[derive(Clone, Debug)]
+pub struct WeekIter {
+    left: [bool; 7],
+    at: usize,
+}
+
+impl Iterator for WeekIter {
+    type Item = Weekday;
+
+    fn next(&mut self) -> Option<Weekday> {
+        self.at += self.left.get(self.at..)?.iter().position(|day| *day)? + 1;
+        Weekday::ALL.get(self.at - 1).copied()
+    }
+}
+
+impl FusedIterator for WeekIter {}
 
 impl Extend<Weekday> for Week {
     fn extend<I: IntoIterator<Item = Weekday>>(&mut self, days: I) {
@@ -90,6 +127,6 @@ impl From<Week> for [bool; 7] {
 
 impl fmt::Debug for Week {
     fn fmt(&self, f: &mut fmt::Formatter<'_>) -> fmt::Result {
-        f.debug_set().entries(self.iter()).finish()
+        f.debug_set().entries(self).finish()
     }
 }

@@ -131,6 +131,8 @@ fn every_detail_event_and_count() {
 fn supplementary_codes() {
     let week = Week::from_iter([Weekday::Monday, Weekday::Thursday]);
     assert_eq!(Supplement::read(b"W0100100"), Ok(Supplement::Week(week)));
+    assert_eq!(week.iter().collect::<Vec<_>>(), [Weekday::Monday, Weekday::Thursday]);
+    assert_eq!(Week::from_iter(Weekday::ALL).iter().collect::<Vec<_>>(), Weekday::ALL);
     assert_eq!(refused(Supplement::read(b"W0000000")), (Reason::Rule, 2));
     assert_eq!(refused(Supplement::read(b"D2TU0000")), (Reason::Rule, 4));
     assert_eq!(refused("V101NNNN".parse::<Supplement>()), (Reason::Character, 4));
@@ -406,7 +408,7 @@ fn reasons() {
         assert_eq!(u16::from(Reason::of(number)), number);
         assert!(Reason::of(number).to_string().ends_with(&format!(" ({number})")));
     }
-    assert_eq!(Reason::of(65_535), Reason::Other);
+    assert_eq!(Reason::from(65_535), Reason::Other);
 }
 
 /// Every refusal is an error, and every type can be sent to and shared with other threads.
