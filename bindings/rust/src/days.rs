@@ -143,7 +143,8 @@ impl DaySet {
         DaySet::default()
     }
 
-    /// Reads a run of codes, one after another, of a sheet issued in the month `issue`.
+    /// Reads a run of codes, one after another, of a sheet issued in the month `issue`. [`Reason::IssueMonth`], [`Reason::Length`],
+    /// [`Reason::Run`], or the refusal of one of its codes.
     pub fn read(issue: u8, codes: &[u8]) -> Result<DaySet, RunRefusal> {
         let mut masks = [0; ffi::DAYS];
         let mut refusal = [0; 2];

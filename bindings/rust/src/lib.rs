@@ -65,3 +65,8 @@ pub use usage::{About, Evening, Meal, Morning, Timing, Usage};
 #[cfg(feature = "utf8")]
 pub use utf8::TextRefusal;
 pub use week::{Week, WeekIter, Weekday};
+
+/// The program that README.md shows.
+#[cfg(doctest)]
+#[doc = include_str!("../README.md")]
+struct Readme;

@@ -64,7 +64,7 @@ impl fmt::Display for SheetRefusal {
 
 impl Error for SheetRefusal {}
 
-/// Checks a whole file and counts its records, the version line with them.
+/// Checks a whole file and counts its records, the version line with them. [`Reason::TooLong`] to [`Reason::Missing`], with the place.
 ///
 /// ```
 /// let refusal = yawsimbel::check(b"JAHIS5\r\n1,A\r\n\x1a").unwrap_err();
@@ -208,7 +208,7 @@ pub struct Writer<'b> {
 }
 
 impl<'b> Writer<'b> {
-    /// Begins a file with its version line.
+    /// Begins a file with its version line. [`WriteRefusal::Room`] for a buffer of less than nine bytes.
     pub fn open(out: &'b mut [u8]) -> Result<Writer<'b>, WriteRefusal> {
         let mut state = [0; ffi::STATE];
         let number = ffi::writer_open(out, &mut state);
@@ -216,7 +216,8 @@ impl<'b> Writer<'b> {
         Ok(Writer { out, state })
     }
 
-    /// Writes a record.
+    /// Writes a record. [`WriteRefusal::Record`] where the reader would refuse it here; then [`WriteRefusal::Room`] where its line and the end of
+    /// the file have no room in the buffer, or in [`LONGEST_FILE`] bytes.
     pub fn put<'r>(&mut self, record: impl Into<Record<'r>>) -> Result<(), WriteRefusal> {
         let record = record.into();
         let mut scratch = Scratch::new();
@@ -226,7 +227,8 @@ impl<'b> Writer<'b> {
         WriteRefusal::unless_zero(number, own)
     }
 
-    /// Ends the file. Afterwards [`Writer::written`] is all of it.
+    /// Ends the file. Afterwards [`Writer::written`] is all of it. [`WriteRefusal::Record`] with [`Reason::Missing`] where it may not end here, with
+    /// [`Reason::Order`] where it has ended.
     pub fn close(&mut self) -> Result<(), WriteRefusal> {
         let mut own = 0;
         let number = ffi::writer_close(self.out, &mut self.state, &mut own);

@@ -76,7 +76,7 @@ fn optional_number(number: Option<u8>) -> u64 {
 }
 
 impl Supplement {
-    /// Reads a code.
+    /// Reads a code of eight characters. [`Reason::Length`] to [`Reason::Rising`] but for those of a usage code, with the character at fault.
     pub fn read(code: &[u8]) -> Result<Supplement, CodeRefusal> {
         let mut numbers = [0; ffi::SUPPLEMENT];
         let mut place = 0;

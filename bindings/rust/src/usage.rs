@@ -250,7 +250,7 @@ impl Usage {
         Usage { detail, timing }
     }
 
-    /// Reads a code.
+    /// Reads a code of sixteen characters. [`Reason::Length`] to [`Reason::Rising`], with the character at fault.
     pub fn read(code: &[u8]) -> Result<Usage, CodeRefusal> {
         let mut numbers = [0; ffi::USAGE];
         let mut place = 0;
