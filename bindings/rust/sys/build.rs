@@ -22,19 +22,23 @@ fn named() -> Option<PathBuf> {
     if place.is_file() {
         return Some(place);
     }
-    Some(in_folder(&place, &NAMES).unwrap_or_else(|| refuse(&place)))
+    let inside = NAMES.iter().map(|name| place.join(name)).find(|archive| archive.is_file());
+    Some(inside.unwrap_or_else(|| refuse(&place)))
 }
 
-/// The archive for this processor that the repository has built.
+/// The archive for this processor that the repository has built. Where there is none, every build looks again.
 fn built() -> Option<PathBuf> {
     let made = PathBuf::from(env::var_os("CARGO_MANIFEST_DIR")?).join("../../../target/staticlib");
     let processor = env::var("CARGO_CFG_TARGET_ARCH").ok()?;
-    let own = in_folder(&made.join(&processor), &NAMES[..1]);
-    own.or_else(|| Some(made).filter(|_| processor == "x86_64").and_then(|made| in_folder(&made, &NAMES[1..])))
-}
-
-fn in_folder(folder: &Path, names: &[&str]) -> Option<PathBuf> {
-    names.iter().map(|name| folder.join(name)).find(|archive| archive.is_file())
+    let mut places = vec![made.join(&processor).join(NAMES[0])];
+    if processor == "x86_64" {
+        places.push(made.join(NAMES[1]));
+    }
+    let there = places.iter().find(|archive| archive.is_file()).cloned();
+    if there.is_none() {
+        places.iter().for_each(|place| println!("cargo:rerun-if-changed={}", place.display()));
+    }
+    there
 }
 
 fn link(archive: &Path) {
