@@ -319,8 +319,21 @@ impl<'a> Told<'_, 'a> {
     fn supplement(&self) -> Option<SupplementRecord<'a>> {
         let mut code = [0; ffi::SUPPLEMENT];
         code.copy_from_slice(&self.n[SUPPLEMENT_CODE]);
-        let kind = SupplementKind::of(self.n[3], Supplement::of(&code), self.text(6)?)?;
+        let (named, site) = (code[0] != 0, self.text(6)?);
+        let kind = SupplementKind::of(self.n[3], Supplement::of(&code), site)?;
+        // A code or a site stands with its own kind alone.
+        if kind.code().is_some() != named || kind.site() != site {
+            return None;
+        }
         Some(SupplementRecord { rp: self.number(1)?, serial: self.number(2)?, kind, text: self.text(4)? })
+    }
+
+    /// A record of a number that a newer library reads as a type of its own has other numbers there, and not the place of all of its fields.
+    fn kept(&self) -> Option<KeptRecord<'a>> {
+        let fields = self.text(1)?;
+        let before = usize::try_from(self.n[1]).ok()?.checked_sub(1)?;
+        let whole = self.file.get(before) == Some(&b',') && self.file.get(before + 1 + fields.len()) == Some(&b'\r');
+        Some(KeptRecord { number: self.number(0)?, fields }).filter(|_| whole)
     }
 
     fn drug(&self) -> Option<DrugRecord<'a>> {
@@ -328,7 +341,7 @@ impl<'a> Told<'_, 'a> {
             rp: self.number(1)?,
             serial: self.number(2)?,
             kind: DrugKind::of(self.n[3])?,
-            code: DrugCode::of(self.n[4], self.text(5)?)?,
+            code: DrugCode::of(self.n[4], self.text(5)?).filter(|code| Some(code.text()) == self.text(5))?,
             name: self.text(7)?,
             amount: Amount::of_hundred_thousandths(self.n[9]),
             amount_of: AmountOf::of(self.n[10])?,
@@ -379,7 +392,7 @@ impl<'a> Record<'a> {
             111 => Record::Usage(told.usage()?),
             181 => Record::Supplement(told.supplement()?),
             201 => Record::Drug(told.drug()?),
-            _ => Record::Kept(KeptRecord { number: told.number(0)?, fields: told.text(1)? }),
+            _ => Record::Kept(told.kept()?),
         })
     }
 
@@ -494,5 +507,51 @@ impl Scratch {
 
     fn all(&self) -> &[u8] {
         &self.bytes[..self.length]
+    }
+}
+
+// Records that this library does not give, as a newer one might.
+#[cfg(test)]
+mod newer {
+    use super::*;
+
+    const FILE: &[u8] = b"JAHIS5\r\n281,1,1,,TEXT,\r\n\x1a";
+
+    fn record(numbers: &[u64]) -> Option<Record<'static>> {
+        let mut n = [0; ffi::RECORD];
+        n[..numbers.len()].copy_from_slice(numbers);
+        Record::of(&n, FILE)
+    }
+
+    #[test]
+    fn a_kept_record_with_a_type_is_not_known() {
+        assert_eq!(record(&[281, 12, 22]), Some(KeptRecord::new(281, b"1,1,,TEXT,").into()));
+        for numbers in [[281, 1, 1, 0], [281, 12, 21, 0], [281, 11, 22, 0], [281, 0, 0, 0], [281, 22, 12, 0]] {
+            assert_eq!(record(&numbers), None, "{numbers:?}");
+        }
+        assert_eq!(record(&[281, 12, u64::MAX]), None);
+    }
+
+    #[test]
+    fn a_value_that_no_rule_has_is_not_known() {
+        let rp = [101, 1, 1, 0, 0, 14];
+        assert_eq!(record(&rp), Some(RpRecord::new(1, Form::Oral, 14).into()));
+        for at in 1..=5 {
+            let mut numbers = rp;
+            numbers[at] = 1 << 16;
+            assert_eq!(record(&numbers), None, "{at}");
+        }
+        assert_eq!(record(&[51, 5, 2018, 7, 2]), None);
+        assert_eq!(record(&[111, 3, 3, 0, 0, 0]), None);
+        assert_eq!(record(&[111, 1, 2, 0, 0, 0, 3]), None);
+        assert_eq!(record(&[201, 1, 1, 4, 1, 0, 0, 0, 0, 1, 1]), None);
+        assert_eq!(record(&[201, 1, 1, 1, 5, 0, 0, 0, 0, 1, 1]), None);
+        assert_eq!(record(&[201, 1, 1, 1, 1, 0, 0, 0, 0, 1, 3]), None);
+        assert_eq!(record(&[201, 1, 1, 1, 1, 0, 6, 0, 0, 1, 1]), None);
+        assert!(record(&[201, 1, 1, 1, 1, 0, 0, 0, 0, 1, 1]).is_some());
+        assert!(record(&[181, 1, 1, 9, 0, 0, 0, 3]).is_some());
+        assert_eq!(record(&[181, 1, 1, 7, 0, 0, 0, 3]), None);
+        assert_eq!(record(&[181, 1, 1, 8, 0, 0, 0, 0]), None);
+        assert_eq!(record(&[181, 1, 1, 7, 0, 0, 0, 0, u64::from(b'I'), 1, 1]), None);
     }
 }

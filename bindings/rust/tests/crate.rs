@@ -149,6 +149,33 @@ fn supplementary_codes() {
     assert_eq!(dates(None, &[1]).write().unwrap().to_string(), "D0100000");
 }
 
+/// How many of these codes are taken; each that is must be known to the crate and written back as it is.
+fn taken_supplements(codes: impl Iterator<Item = Vec<u8>>) -> usize {
+    let written_back = |code: &Vec<u8>| match Supplement::read(code) {
+        Ok(supplement) => {
+            assert_eq!(supplement.write().unwrap().as_bytes()[..], code[..], "{supplement:?}");
+            true
+        }
+        Err(refusal) => {
+            assert_ne!(refusal.reason, Reason::Other, "{code:?}");
+            false
+        }
+    };
+    codes.filter(written_back).count()
+}
+
+#[test]
+fn every_supplement_of_two_characters() {
+    let with = |pattern: &'static [u8; 8]| all(2).map(|two| [&pattern[..1], &two, &pattern[3..]].concat());
+    assert_eq!(taken_supplements(with(b"I0000000")), 31 * 31);
+    assert_eq!(taken_supplements(with(b"C0000000")), 3 * 35);
+    // Every day of a year of 366 days, and of every month.
+    assert_eq!(taken_supplements(with(b"D0000000")), 366 + 31);
+    assert_eq!(taken_supplements(with(b"V00NNNNN")), 5 * 10);
+    let weeks = (0..128u8).map(|week| format!("W{week:07b}").into_bytes());
+    assert_eq!(taken_supplements(weeks), 127);
+}
+
 /// A set of days of named months.
 fn days_of(days: &[(u8, u8)]) -> DaySet {
     days.iter().map(|day| Day::try_from(*day).unwrap()).collect()
