@@ -28,15 +28,15 @@ fn written(days: &DaySet, room: &mut [u8]) -> Result<Vec<u8>, Box<dyn Error>> {
     // A code from its characters.
     let after_meals: Usage = "1013044400000000".parse()?;
     writer.put(RpRecord::new(1, Form::Oral, 14))?;
-    writer.put(UsageRecord::new(1, b"AFTER MEALS").code(after_meals))?;
-    writer.put(DrugRecord::new(1, 1, Amount::from(3), TABLETS).kind(DrugKind::Drug).name(b"TABLET A"))?;
+    writer.put(UsageRecord::new(1, b"AFTER MEALS").code(after_meals).times(3))?;
+    writer.put(DrugRecord::new(1, 1, Amount::from(3), TABLETS).kind(DrugKind::Medicine).name(b"TABLET A"))?;
     // And one from what it says.
     let (supper, lunch, breakfast) = (None, None, None);
     let on_waking = Timing::Meals { bedtime: false, supper, lunch, breakfast, waking: true, at_fifteen: false };
     writer.put(RpRecord::new(2, Form::Oral, 5))?;
-    writer.put(UsageRecord::new(2, b"ON WAKING").code(Usage::new(Detail::ByMouth, on_waking)))?;
+    writer.put(UsageRecord::new(2, b"ON WAKING").code(Usage::new(Detail::Swallowed, on_waking)).times(1))?;
     put_days(&mut writer, 2, issue.month(), days)?;
-    writer.put(DrugRecord::new(2, 1, Amount::from(1), TABLETS).kind(DrugKind::Drug).name(b"TABLET B"))?;
+    writer.put(DrugRecord::new(2, 1, Amount::from(1), TABLETS).kind(DrugKind::Medicine).name(b"TABLET B"))?;
     writer.close()?;
     Ok(writer.written().to_vec())
 }
@@ -56,7 +56,7 @@ fn put_head(writer: &mut Writer) -> Result<(), WriteRefusal> {
 fn put_days(writer: &mut Writer, rp: u16, issue_month: u8, days: &DaySet) -> Result<(), Box<dyn Error>> {
     let mut run = [0; DaySet::LONGEST_RUN];
     for (code, serial) in days.write(issue_month, &mut run)?.chunks(8).zip(1..) {
-        let kind = SupplementKind::Coded(Supplement::read(code)?);
+        let kind = SupplementKind::Code(Supplement::read(code)?);
         writer.put(SupplementRecord::new(rp, serial, b"BY DATE").kind(kind))?;
     }
     Ok(())
@@ -69,7 +69,7 @@ fn read_back(file: &[u8]) -> Result<DaySet, Box<dyn Error>> {
         match record? {
             Record::Issue(date) => issue_month = date.month(),
             Record::Supplement(supplement) => {
-                if let SupplementKind::Coded(code) = supplement.kind {
+                if let SupplementKind::Code(code) = supplement.kind {
                     run.extend(code.write()?.as_bytes());
                 }
             }

@@ -50,29 +50,29 @@ macro_rules! details {
 }
 
 details! {
-    Oral '0' ByMouth "Swallowed (経口).";
-    Oral '1' Sublingual "Under the tongue (舌下).";
+    Oral '0' Swallowed "Swallowed (経口).";
+    Oral '1' UnderTongue "Under the tongue (舌下).";
     Oral '2' Buccal "Between gum and cheek (バッカル).";
-    Oral '3' OralApplication "Applied in the mouth (口腔内塗布).";
+    Oral '3' InMouth "Applied in the mouth (口腔内塗布).";
     External 'A' Patch "Stuck on (貼付).";
-    External 'B' Application "Applied (塗布).";
+    External 'B' Spread "Applied (塗布).";
     External 'C' Compress "As a compress (湿布).";
-    External 'D' Dusting "Dusted on (撒布).";
+    External 'D' Powder "Dusted on (撒布).";
     External 'E' Spray "Sprayed (噴霧).";
-    External 'F' Disinfection "To disinfect (消毒).";
+    External 'F' Disinfect "To disinfect (消毒).";
     External 'G' EarDrops "As ear drops (点耳).";
     External 'H' EyeDrops "As eye drops (点眼).";
     External 'J' NoseDrops "As nose drops (点鼻).";
     External 'K' Gargle "To gargle (うがい).";
-    External 'L' Inhalation "Inhaled (吸入).";
+    External 'L' Inhale "Inhaled (吸入).";
     External 'M' Troche "As a troche (トローチ).";
-    External 'N' BladderIrrigation "To rinse the bladder (膀胱洗浄).";
-    External 'P' NasalIrrigation "To rinse the nose (鼻腔内洗浄).";
+    External 'N' BladderWash "To rinse the bladder (膀胱洗浄).";
+    External 'P' NoseWash "To rinse the nose (鼻腔内洗浄).";
     External 'Q' Enema "As an enema (浣腸).";
-    External 'R' RectalInsertion "Put into the rectum (肛門挿入).";
-    External 'S' RectalInstillation "Poured into the rectum (肛門注入).";
-    External 'T' VaginalInsertion "Put into the vagina (膣内挿入).";
-    External 'U' BladderInstillation "Poured into the bladder (膀胱注入).";
+    External 'R' AnusInsert "Put into the rectum (肛門挿入).";
+    External 'S' AnusInstil "Poured into the rectum (肛門注入).";
+    External 'T' VaginaInsert "Put into the vagina (膣内挿入).";
+    External 'U' BladderInstil "Poured into the bladder (膀胱注入).";
 }
 
 impl Detail {

@@ -64,21 +64,21 @@ pub enum SupplementKind<'a> {
     /// 1, a dose that falls (漸減).
     Tapering,
     /// 2, packed by dose (一包化).
-    DosePacks,
+    OneBag,
     /// 3, every other day (隔日).
-    EveryOtherDay,
+    Alternate,
     /// 4, crushed (粉砕).
     Crushed,
     /// 5, the usage goes on (用法の続き).
-    UsageGoesOn,
+    More,
     /// 6, where on the body, in words (部位).
     Site,
     /// 7, how much at a time (1回使用量).
-    AmountAtATime,
+    Dose,
     /// 8, a supplementary code (JAMI 補足用法).
-    Coded(Supplement),
+    Code(Supplement),
     /// 9, the code of a site, three digits or capitals (JAMI 部位).
-    CodedSite(Text<'a>),
+    SiteCode(Text<'a>),
     /// Any other number.
     Other(u16),
 }
@@ -89,14 +89,14 @@ impl<'a> SupplementKind<'a> {
         Some(match self {
             SupplementKind::Unknown => return None,
             SupplementKind::Tapering => 1,
-            SupplementKind::DosePacks => 2,
-            SupplementKind::EveryOtherDay => 3,
+            SupplementKind::OneBag => 2,
+            SupplementKind::Alternate => 3,
             SupplementKind::Crushed => 4,
-            SupplementKind::UsageGoesOn => 5,
+            SupplementKind::More => 5,
             SupplementKind::Site => 6,
-            SupplementKind::AmountAtATime => 7,
-            SupplementKind::Coded(_) => 8,
-            SupplementKind::CodedSite(_) => 9,
+            SupplementKind::Dose => 7,
+            SupplementKind::Code(_) => 8,
+            SupplementKind::SiteCode(_) => 9,
             SupplementKind::Other(number) => *number,
         })
     }
@@ -104,7 +104,7 @@ impl<'a> SupplementKind<'a> {
     /// Its supplementary code.
     pub const fn code(&self) -> Option<Supplement> {
         match self {
-            SupplementKind::Coded(code) => Some(*code),
+            SupplementKind::Code(code) => Some(*code),
             _ => None,
         }
     }
@@ -112,7 +112,7 @@ impl<'a> SupplementKind<'a> {
     /// The code of its site, perhaps empty.
     pub fn site(&self) -> Text<'a> {
         match self {
-            SupplementKind::CodedSite(site) => *site,
+            SupplementKind::SiteCode(site) => *site,
             _ => Text::default(),
         }
     }
@@ -122,14 +122,14 @@ impl<'a> SupplementKind<'a> {
         Some(match number {
             0 => SupplementKind::Unknown,
             1 => SupplementKind::Tapering,
-            2 => SupplementKind::DosePacks,
-            3 => SupplementKind::EveryOtherDay,
+            2 => SupplementKind::OneBag,
+            3 => SupplementKind::Alternate,
             4 => SupplementKind::Crushed,
-            5 => SupplementKind::UsageGoesOn,
+            5 => SupplementKind::More,
             6 => SupplementKind::Site,
-            7 => SupplementKind::AmountAtATime,
-            8 => SupplementKind::Coded(code?),
-            9 => SupplementKind::CodedSite(site),
+            7 => SupplementKind::Dose,
+            8 => SupplementKind::Code(code?),
+            9 => SupplementKind::SiteCode(site),
             number => SupplementKind::Other(u16::try_from(number).ok()?),
         })
     }
@@ -140,8 +140,8 @@ impl<'a> SupplementKind<'a> {
 #[non_exhaustive]
 #[repr(u8)]
 pub enum DrugKind {
-    /// A drug (医薬品).
-    Drug = 1,
+    /// A medicine (医薬品).
+    Medicine = 1,
     /// Medical material (医療材料).
     Material = 2,
     /// A drug that no insurance pays (非保険薬).
@@ -153,7 +153,7 @@ impl DrugKind {
     pub(crate) fn of(number: u64) -> Option<Option<DrugKind>> {
         Some(match number {
             0 => None,
-            1 => Some(DrugKind::Drug),
+            1 => Some(DrugKind::Medicine),
             2 => Some(DrugKind::Material),
             3 => Some(DrugKind::Uninsured),
             _ => return None,
@@ -168,8 +168,8 @@ pub enum DrugCode<'a> {
     /// 1, no code.
     #[default]
     None,
-    /// 2, a receipt code (レセプト電算コード).
-    Receipt(Text<'a>),
+    /// 2, a code of the claims computer (レセプト電算コード).
+    Claim(Text<'a>),
     /// 3, a code of the ministry (厚生省コード).
     Ministry(Text<'a>),
     /// 4, a YJ code.
@@ -185,7 +185,7 @@ impl<'a> DrugCode<'a> {
     pub const fn number(&self) -> u16 {
         match self {
             DrugCode::None => 1,
-            DrugCode::Receipt(_) => 2,
+            DrugCode::Claim(_) => 2,
             DrugCode::Ministry(_) => 3,
             DrugCode::Yj(_) => 4,
             DrugCode::Hot(_) => 6,
@@ -197,7 +197,7 @@ impl<'a> DrugCode<'a> {
     pub fn text(&self) -> Text<'a> {
         match self {
             DrugCode::None => Text::default(),
-            DrugCode::Receipt(code)
+            DrugCode::Claim(code)
             | DrugCode::Ministry(code)
             | DrugCode::Yj(code)
             | DrugCode::Hot(code)
@@ -209,7 +209,7 @@ impl<'a> DrugCode<'a> {
     pub(crate) fn of(number: u64, code: Text<'a>) -> Option<DrugCode<'a>> {
         Some(match number {
             1 => DrugCode::None,
-            2 => DrugCode::Receipt(code),
+            2 => DrugCode::Claim(code),
             3 => DrugCode::Ministry(code),
             4 => DrugCode::Yj(code),
             6 => DrugCode::Hot(code),
@@ -224,15 +224,15 @@ impl<'a> DrugCode<'a> {
 #[non_exhaustive]
 #[repr(u8)]
 pub enum AmountOf {
-    /// Units that the drug is sold in (薬価単位).
+    /// Units of the price list, as tablets (薬価単位).
     #[default]
-    Units = 1,
-    /// The drug's potency (力価単位).
+    PriceUnit = 1,
+    /// The active substance, as mg (力価単位).
     Potency = 2,
 }
 
 impl AmountOf {
     pub(crate) fn of(number: u64) -> Option<AmountOf> {
-        [AmountOf::Units, AmountOf::Potency].into_iter().find(|of| *of as u64 == number)
+        [AmountOf::PriceUnit, AmountOf::Potency].into_iter().find(|of| *of as u64 == number)
     }
 }

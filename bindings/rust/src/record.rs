@@ -74,7 +74,7 @@ pub struct UsageRecord<'a> {
 /// use yawsimbel::{Supplement, SupplementKind, SupplementRecord};
 ///
 /// let code: Supplement = "I1100000".parse()?;
-/// let record = SupplementRecord::new(1, 1, b"EVERY OTHER DAY").kind(SupplementKind::Coded(code));
+/// let record = SupplementRecord::new(1, 1, b"EVERY OTHER DAY").kind(SupplementKind::Code(code));
 /// # assert_eq!(record.kind.number(), Some(8));
 /// # Ok::<(), yawsimbel::CodeRefusal>(())
 /// ```
@@ -96,7 +96,7 @@ pub struct SupplementRecord<'a> {
 /// ```
 /// use yawsimbel::{Amount, DrugCode, DrugKind, DrugRecord};
 ///
-/// let record = DrugRecord::new(1, 1, Amount::from(3), b"TAB").kind(DrugKind::Drug).name(b"TABLET A");
+/// let record = DrugRecord::new(1, 1, Amount::from(3), b"TAB").kind(DrugKind::Medicine).name(b"TABLET A");
 /// # assert_eq!((record.code, record.name.as_bytes()), (DrugCode::None, &b"TABLET A"[..]));
 /// ```
 #[derive(Clone, Copy, Debug, PartialEq, Eq, Hash)]
@@ -110,7 +110,7 @@ pub struct DrugRecord<'a> {
     pub kind: Option<DrugKind>,
     /// The drug's code, with which kind of code it is.
     pub code: DrugCode<'a>,
-    /// The drug's name; empty only beside a receipt code.
+    /// The drug's name; empty only beside a code of the claims computer.
     pub name: Text<'a>,
     /// The amount.
     pub amount: Amount,
@@ -192,7 +192,7 @@ impl<'a> DrugRecord<'a> {
             code: DrugCode::None,
             name: Text::default(),
             amount,
-            amount_of: AmountOf::Units,
+            amount_of: AmountOf::PriceUnit,
             unit: unit.into(),
         }
     }

@@ -12,7 +12,7 @@ use crate::{Class, Code, CodeRefusal, Condition, Detail, Event, Few, Hours, Reas
 /// use yawsimbel::{Detail, Meal, Timing, Usage};
 ///
 /// let usage: Usage = "1013044400000000".parse()?;
-/// assert_eq!(usage.detail, Detail::ByMouth);
+/// assert_eq!(usage.detail, Detail::Swallowed);
 /// assert_eq!(usage.times(), Some(3));
 /// assert!(matches!(usage.timing, Timing::Meals { lunch: Some(Meal::After), bedtime: false, .. }));
 ///

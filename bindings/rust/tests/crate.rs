@@ -27,7 +27,7 @@ fn usage_codes() {
         waking: false,
         at_fifteen: false,
     };
-    assert_eq!(usage, Usage::new(Detail::ByMouth, timing));
+    assert_eq!(usage, Usage::new(Detail::Swallowed, timing));
     assert_eq!((usage.class(), usage.times()), (Class::Oral, Some(3)));
     assert_eq!(refused(Usage::read(b"1012044400000000")), (Reason::Count, 4));
     assert_eq!(refused(Usage::read(b"101200040P000000")), (Reason::Rule, 10));
@@ -38,7 +38,7 @@ fn usage_codes() {
         Timing::Event { event: Event::Headache, condition: Condition::May, interval: Some(6), limit: Some(12) };
     assert_eq!("10501206C0000000".parse::<Usage>().unwrap().timing, headache);
     let mouth = Usage::try_from(&b"1371N00000000000"[..]).unwrap();
-    assert_eq!(mouth, Usage::new(Detail::OralApplication, Timing::Count { times: 1, about: About::OrSeveral }));
+    assert_eq!(mouth, Usage::new(Detail::InMouth, Timing::Count { times: 1, about: About::OrSeveral }));
     let codes = [
         "1013044400000000",
         "131514440P000000",
@@ -57,7 +57,7 @@ fn usage_codes() {
 #[test]
 fn usages_that_no_code_has() {
     let none = |timing| {
-        assert_eq!(Usage::new(Detail::ByMouth, timing).write(), Err(Reason::NoCode), "{timing:?}");
+        assert_eq!(Usage::new(Detail::Swallowed, timing).write(), Err(Reason::NoCode), "{timing:?}");
         assert_eq!(Usage::new(Detail::Patch, timing).write(), Err(Reason::NoCode), "{timing:?}");
     };
     for start in [24, 25, 255] {
@@ -257,12 +257,12 @@ fn sample_is_read() {
     assert_eq!(records[8], RpRecord::new(1, Form::Oral, 14).into());
     let usage = "1013044400000000".parse().unwrap();
     assert_eq!(records[9], UsageRecord::new(1, b"AFTER MEALS").code(usage).times(3).into());
-    let kind = SupplementKind::Coded(Supplement::Interval { on: 1, off: 1 });
+    let kind = SupplementKind::Code(Supplement::Interval { on: 1, off: 1 });
     assert_eq!(records[10], SupplementRecord::new(1, 1, b"EVERY OTHER DAY").kind(kind).into());
-    let drug = DrugRecord::new(1, 1, Amount::from(3), b"TAB").kind(DrugKind::Drug).name(b"TABLET A");
+    let drug = DrugRecord::new(1, 1, Amount::from(3), b"TAB").kind(DrugKind::Medicine).name(b"TABLET A");
     assert_eq!(records[11], drug.into());
-    let shown = "Drug(DrugRecord { rp: 1, serial: 1, kind: Some(Drug), code: None, name: \"TABLET A\", amount: 3, \
-                 amount_of: Units, unit: \"TAB\" })";
+    let shown = "Drug(DrugRecord { rp: 1, serial: 1, kind: Some(Medicine), code: None, name: \"TABLET A\", amount: 3, \
+                 amount_of: PriceUnit, unit: \"TAB\" })";
     assert_eq!(format!("{:?}", records[11]), shown);
     assert_eq!(format!("{:?}", Sheet::open(SAMPLE)), "Sheet { length: 230, offset: 8, ended: false, .. }");
 }
@@ -356,7 +356,7 @@ fn every_kind_is_read_and_written_back() {
         assert_eq!(rewritten(&sheet), sheet);
     }
     let sheet = with("181,1,1,8,EVERY OTHER DAY,I1100000,", "181,1,1,9,LEFT EAR,,42L");
-    let site = SupplementRecord::new(1, 1, b"LEFT EAR").kind(SupplementKind::CodedSite(b"42L".into()));
+    let site = SupplementRecord::new(1, 1, b"LEFT EAR").kind(SupplementKind::SiteCode(b"42L".into()));
     assert_eq!(Sheet::open(&sheet).nth(10), Some(Ok(site.into())));
     assert_eq!(rewritten(&sheet), sheet);
     for (kind, code) in ["", "1", "2", "3"]
@@ -401,15 +401,15 @@ fn refused_records() {
     let usage = UsageRecord::new(1, b"AS TOLD");
     assert_eq!(refused_record(&mut writer, usage.times(0)), Reason::Value);
     assert_eq!(refused_record(&mut writer, UsageRecord::new(2, b"AS TOLD")), Reason::Counter);
-    let no_code = Usage::new(Detail::ByMouth, Timing::Even { times: 5, start: None });
+    let no_code = Usage::new(Detail::Swallowed, Timing::Even { times: 5, start: None });
     assert_eq!(refused_record(&mut writer, usage.code(no_code)), Reason::Code);
     writer.put(usage).unwrap();
     let supplement = SupplementRecord::new(1, 1, b"A");
-    let kinds = [SupplementKind::Other(8), SupplementKind::Other(9), SupplementKind::CodedSite(b"".into())];
+    let kinds = [SupplementKind::Other(8), SupplementKind::Other(9), SupplementKind::SiteCode(b"".into())];
     for kind in kinds {
         assert_eq!(refused_record(&mut writer, supplement.kind(kind)), Reason::Present);
     }
-    for kind in [SupplementKind::Other(0), SupplementKind::Other(100), SupplementKind::CodedSite(b"42l".into())] {
+    for kind in [SupplementKind::Other(0), SupplementKind::Other(100), SupplementKind::SiteCode(b"42l".into())] {
         assert_eq!(refused_record(&mut writer, supplement.kind(kind)), Reason::Value);
     }
     let drug = DrugRecord::new(1, 1, "1.5".parse().unwrap(), b"ML").name(b"A").code(DrugCode::Generic(b"".into()));
