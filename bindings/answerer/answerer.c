@@ -1,6 +1,6 @@
 /* Answers questions to the library, from standard input to standard output, until the input ends.
  *
- * The library is x86-64 code. What it is compared with need not be, so the two meet over a pipe: this side may run under an emulator.
+ * The library may be another processor's code than what it is compared with, so the two meet over a pipe: this side may run under an emulator.
  *
  * A question is one byte that says what is asked, the length of what follows in four bytes, and that. An answer is its length in four bytes,
  * and all that the call returned, in two bytes, and wrote. Numbers have their lowest byte first. What a call is to write is filled with a
