@@ -1,7 +1,7 @@
 /* Checks a sheet on standard input and prints what its labels say: for each RP its number and how its drugs are taken, then each drug's name,
  * amount and unit; or the refusal, with what its numbers mean. Texts come out as they stand in the sheet, in Shift_JIS.
  *
- *     cc -I include examples/check.c messages/yawsimbel_messages.c target/staticlib/libcapi.a -o check && ./check < samples/sheet.txt
+ *     cc -I include examples/check.c messages/yawsimbel_messages.c target/staticlib/$(uname -m)/libyawsimbel.a -o check && ./check < samples/sheet.txt
  */
 #include "yawsimbel.h"
 

@@ -1,7 +1,7 @@
 /* Lists the drugs of a sheet on standard input: RP, name, amount and unit, a line each; or the refusal, with what its number means. Texts come out as
  * they stand in the sheet, in Shift_JIS.
  *
- *     cc -I include examples/drugs.c messages/yawsimbel_messages.c target/staticlib/libcapi.a -o drugs && ./drugs < samples/sheet.txt
+ *     cc -I include examples/drugs.c messages/yawsimbel_messages.c target/staticlib/$(uname -m)/libyawsimbel.a -o drugs && ./drugs < samples/sheet.txt
  */
 #include "yawsimbel.h"
 

@@ -1,6 +1,6 @@
 /* Writes a new sheet with two RPs, the second taken on the days of a set, to standard output; then reads it back and says on standard error what it read.
  *
- *     cc -I include examples/write.c messages/yawsimbel_messages.c target/staticlib/libcapi.a -o write && ./write > new.sheet
+ *     cc -I include examples/write.c messages/yawsimbel_messages.c target/staticlib/$(uname -m)/libyawsimbel.a -o write && ./write > new.sheet
  */
 #include "yawsimbel.h"
 #include <inttypes.h>

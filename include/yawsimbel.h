@@ -1,6 +1,6 @@
 /* Yawsimbel: Japanese prescription files, and the usage and supplementary codes in them, read and written.
  *
- * Link with libcapi.a and, for the words at the end of this file, messages/yawsimbel_messages.c. No function allocates, keeps a pointer after it
+ * Link with libyawsimbel.a and, for the words at the end of this file, messages/yawsimbel_messages.c. No function allocates, keeps a pointer after it
  * returns, or touches anything but what it is lent; none has a state of its own, so any number of threads may call at once on memory of their own.
  *
  * NAMES. Every number of an array, and every number that a function returns, has a name here, made in one of four ways:
@@ -597,7 +597,7 @@ enum yws_date_style {
  * eight in western style, in era style seven and a 0. YWS_ERR_VALUE where there is no such day or year. */
 uint16_t yws_date_make(uint16_t year, uint8_t month, uint8_t day, uint8_t style, uint64_t numbers[YWS_LEN_DATE], uint8_t text[YWS_LEN_DATE_TEXT]);
 
-/* ---- Words. These stand in messages/yawsimbel_messages.c, to be compiled with your program, and not in libcapi.a, in which all is proved. */
+/* ---- Words. These stand in messages/yawsimbel_messages.c, to be compiled with your program, and not in libyawsimbel.a, in which all is proved. */
 
 /* What a number that a function returned means, in a line of English (ASCII) or of Japanese (UTF-8, unlike a sheet), with no end of line; an empty text,
  * never NULL, for a number that no function returns. For YWS_ERR_CODE and YWS_ERR_RECORD ask again with the number that follows. */

@@ -56,7 +56,7 @@ fn link(archive: &Path) {
 fn refuse(place: &Path) -> ! {
     eprintln!("YAWSIMBEL_LIB: {} is no library libNAME.a, nor a folder with {}", place.display(), NAMES.join(" or "));
     eprintln!("In the repository's root, build it and say where it is, or leave YAWSIMBEL_LIB unset:");
-    eprintln!("    rt staticlib capi");
-    eprintln!("    export YAWSIMBEL_LIB=\"$PWD/target/staticlib\"");
+    eprintln!("    bindings/build $(uname -m)");
+    eprintln!("    export YAWSIMBEL_LIB=\"$PWD/target/staticlib/$(uname -m)\"");
     exit(1)
 }
