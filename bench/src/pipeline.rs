@@ -11,7 +11,7 @@ fn each(file: &[u8], mut take: impl FnMut(&StringRecord)) -> Result<usize, u16> 
     let mut reader = ReaderBuilder::new().has_headers(false).flexible(true).quoting(false).from_reader(text.as_bytes());
     let mut record = StringRecord::new();
     let mut lines = 0;
-    while reader.read_record(&mut record).map_err(|_| 1)? {
+    while reader.read_record(&mut record).map_err(|_| 1u16)? {
         take(&record);
         lines += 1;
     }
@@ -36,8 +36,8 @@ pub fn write(file: &[u8], out: &mut [u8]) -> Result<usize, u16> {
         .from_writer(Vec::new());
     let mut wrong = false;
     each(file, |record| wrong |= writer.write_record(record).is_err())?;
-    let text = writer.into_inner().map_err(|_| 1)?;
-    let text = String::from_utf8(text).map_err(|_| 1)?;
+    let text = writer.into_inner().map_err(|_| 1u16)?;
+    let text = String::from_utf8(text).map_err(|_| 1u16)?;
     let (bytes, _, _) = SHIFT_JIS.encode(&text);
     let length = bytes.len() + 1;
     if wrong || length > out.len() {
