@@ -1,8 +1,12 @@
 -- By the number of bytes.
 -- Assumes nothing.
-use mathlib.Core.Path.{sym}
+use Prim.Native.Nat.{_-_}
+use mathlib.Core.Path.{_∙_, sym}
+use mathlib.Core.Bool.{not, _&&_}
 use native.Mathlib.Omega.{arith}
 use borrow.Author.Needs.{needs}
+use lib.Dec.{eqb}
+use lib.ListN.{length, getD}
 use Rattle.number.proofs.Whole.{fraction-none, fraction-long, fraction-some}
 use Rattle.number.proofs.fraction.Statement.{statement}
 use Rattle.number.proofs.fraction.Tie as tie
@@ -23,7 +27,10 @@ shared-slice-read-result : tie.Need-shared-slice-read-result
 shared-slice-read-result c = search needs
 
 returns-3 : tie.Need-returns-3
-returns-3 c = cc (fraction-some (c .before .before .before .before .before .args .s .now) (c .before .before .before .if1 .left) (omega arith))
+returns-3 c =
+    let s = c .before .before .before .before .before .args .s .now in
+    (λ i. c .before .figures .ensures i && not (eqb (getD s (length s - 1) 0) 48)) ∙
+    sym (fraction-some s (c .before .before .before .if1 .left) (omega arith))
 
 pub fraction-spec : {M : Type 1} → statement M
 fraction-spec =
