@@ -1,14 +1,15 @@
 -- What holds of reading, making and writing dates, over the rules alone; and dates worked by hand.
 -- Each contract gives its answer by an equation, so that two answers that meet it are equal.
 -- Assumes nothing.
-use Prim.Native.Nat.{ℕ, zero, suc, _+_, _-_, _*_, _/_, _%_, _≤_}
+use Prim.Native.Nat.{ℕ, zero, suc, _+_, _-_, _*_, _/_, _%_, _<_, _≤_}
 use Prim.Native.Char.{code}
 use Prim.Native.String.{String, [] as nil, _∷_ as cons}
 use mathlib.Core.Path.{_≡_, refl, _∙_, sym, ap, subst}
-use mathlib.Core.Bool.{true}
+use mathlib.Core.Bool.{true, _||_}
 use mathlib.Core.List.{List, [], _∷_, map}
+use mathlib.Core.Logic.{_↔_, _⊎_, inl, inr}
 use native.Mathlib.Omega.{arith}
-use borrow.Author.Tests.{le-leb, leb-true, eqb-true, eqb-false}
+use borrow.Author.Tests.{le-leb, leb-true, eq-eqb, eqb-true, eqb-false}
 use lib.Dec.{leb, eqb}
 use lib.ListN.{length, getD, take, drop}
 use Rattle.number.specs.Number.{none, figure, figures, value}
@@ -17,11 +18,12 @@ use Rattle.number.proofs.Sizes.{figures-parts}
 use Rattle.cells.specs.Test.{Answer, took}
 use Rattle.date.specs.declared.Made.{Made}
 use Rattle.date.specs.declared.Made.the-variants.{Day, None}
-use Rattle.date.specs.Date.{said, leap, lastDay, exists, eraAdds, date, inStyle, isDate, western, eraDate, held, readDate, latestEra, makeWestern, makeEra, makeDate}
+use Rattle.date.specs.Date.{said, leap, lastDay, exists, eras, eraAdds, dayNumber, inForce, date, inStyle, inItsEra, isDate, western, eraDate, held, readDate, makeWestern, makeEra, makeDate}
 use Rattle.date.specs.Print.{inWestern, inEra, printDate}
 use Rattle.date.specs.declared.Date.{Date}
 use Rattle.date.proofs.Digits.{figure-last}
-use Rattle.date.proofs.Style.{read-none, read-other, read-eight, read-seven, print-eight, print-seven, numbers, western-year, era-year}
+use Rattle.date.proofs.Eras.{Lies, Spanned, numbered, styled, only, some}
+use Rattle.date.proofs.Style.{read-none, read-other, read-eight, read-seven, print-eight, print-seven, a-day, its-day, numbers, era-year}
 
 -- Two answers of which document 01's number and values are the same are equal.
 pub one-made : (a b : Made) → said a ≡ said b → a ≡ b
@@ -125,7 +127,13 @@ styles {P} s t h west inera =
     (λ g. never (sym (read-other s f (eqb-false _ _ e) (eqb-false _ _ g)) ∙ h))))
     (λ f. never (sym (read-none s f) ∙ h))
 
--- A field that reads as a date is what the date is written as.
+-- What is read is a date,
+pub is-date : (s : List ℕ) (t : Date) → readDate s ≡ took t → isDate t ≡ true
+is-date s t h =
+    styles s t h (λ f l k. let p = kept (western s) t k in ap isDate (sym (p .1)) ∙ p .0)
+    (λ f l o k. let p = kept (eraDate s) t k in ap isDate (sym (p .1)) ∙ p .0)
+
+-- and a field that reads as a date is what the date is written as.
 pub back : (s : List ℕ) (t : Date) → readDate s ≡ took t → printDate t ≡ s
 back s t h =
     styles s t h
@@ -153,7 +161,6 @@ western-again : (t : Date) → isDate t ≡ true → t .era ≡ 0 → readDate (
 unfolding figures value
 western-again t h e =
     let n = numbers t h in
-    let y = western-year t h e in
     let k : figures (inWestern t) ≡ true = simp figure-last in
     let p : western (inWestern t) .year ≡ t .year = omega (arith, four-again (t .year) (omega arith)) in
     let q : western (inWestern t) .month ≡ t .month = omega arith in
@@ -182,7 +189,55 @@ written t h =
     (λ e. let z = eqb-true (t .era) 0 e in ap readDate (print-eight t h z) ∙ western-again t h z)
     (λ e. let z = eqb-false (t .era) 0 e in ap readDate (print-seven t h z) ∙ era-again t h z)
 
--- So is what a caller makes, in western style, in era style, or with no style named.
+-- ---- days in their order
+-- Of two days that exist, the earlier, by its year, else its month, else its day, has the lower number YYYYMMDD.
+pub in-order : (y m d v n e : ℕ) → exists y m d ≡ true → (y < v) ⊎ ((y ≡ v) × ((m < n) ⊎ ((m ≡ n) × (d < e)))) → dayNumber y m d < dayNumber v n e
+in-order y m d v n e x (inl h) = let a = a-day y m d x in omega arith
+in-order y m d v n e x (inr (z, inl h)) = let a = a-day y m d x in omega arith
+in-order y m d v n e x (inr (z, inr (w, h))) = omega arith
+
+-- ---- making
+its-own : (k : ℕ) → eqb k 0 || eqb k k ≡ true
+its-own k = split (eqb k 0) (λ a. rw a) (λ a. rw (a, eq-eqb k k refl))
+
+module _ (y m d : ℕ) where
+  -- the days on which a date can be made
+  abbrev Can : Type 0
+  Can = (1868 ≤ y) × (y ≤ 2099) × (exists y m d ≡ true)
+
+  -- they are days of the eras,
+  can-span : Can → Spanned (dayNumber y m d)
+  can-span h = let n = a-day y m d (h .2) in record { from = omega (arith, h .0, n .months, n .days); upto = omega (arith, h .1, n .month, n .day) }
+
+  is-can : (e : ℕ) → isDate (date e y m d) ≡ true → Can
+  is-can e h = let n = numbers (date e y m d) h in (n .from, n .upto, its-day (date e y m d) h)
+
+  -- and they, and no others, are dates in western style
+  pub western-date : (isDate (date 0 y m d) ≡ true) ↔ Can
+  unfolding isDate inStyle inItsEra
+  western-date = (is-can 0, λ h. rw (le-leb 1868 y (h .0), le-leb y 2099 (h .1), h .2))
+
+  -- and in the era in force.
+  pub era-date : (isDate (date (inForce y m d) y m d) ≡ true) ↔ Can
+  unfolding isDate inItsEra
+  era-date = (
+    is-can (inForce y m d),
+    λ h. let n = a-day y m d (h .2) in
+        rw (styled (inForce y m d) y m d (n .month) (n .day) (some y m d (can-span h)), h .2) (its-own (inForce y m d)),
+  )
+
+-- Every day from 1868-01-01 to 2099-12-31 lies in exactly one era, and that is the one which making takes.
+pub record OneEra (y m d : ℕ) : Type 0 where
+  pub lies : Lies (dayNumber y m d) (inForce y m d) eras
+  pub only : (k : ℕ) → Lies (dayNumber y m d) k eras → k ≡ inForce y m d
+  pub made : makeEra y m d ≡ took (date (inForce y m d) y m d)
+
+pub one-era : (y m d : ℕ) → 1868 ≤ y → y ≤ 2099 → exists y m d ≡ true → OneEra y m d
+unfolding makeEra
+one-era y m d l u x =
+    record { lies = some y m d (can-span y m d (l, u, x)); only = only y m d; made = rw (era-date y m d .1 (l, u, x)) }
+
+-- What a caller makes, in western style, in era style, or with no style named, is written as a field that reads as the date.
 module _ (y m d : ℕ) (t : Date) where
   pub made-western : makeWestern y m d ≡ took t → readDate (printDate t) ≡ took t
   unfolding makeWestern
@@ -191,6 +246,15 @@ module _ (y m d : ℕ) (t : Date) where
   pub made-era : makeEra y m d ≡ took t → readDate (printDate t) ≡ took t
   unfolding makeEra
   made-era h = let k = kept _ t h in written t (ap isDate (sym (k .1)) ∙ k .0)
+
+  -- A date in era style has an era, and so seven characters.
+  pub era-seven : makeEra y m d ≡ took t → length (printDate t) ≡ 7
+  unfolding makeEra
+  era-seven h =
+      let k = kept _ t h in
+      let z : t .era ≡ inForce y m d = ap (λ (u : Date). u .era) (sym (k .1)) in
+      let n : 1 ≤ inForce y m d = numbered (dayNumber y m d) (inForce y m d) (some y m d (can-span y m d (era-date y m d .0 (k .0)))) in
+      ap length (print-seven t (ap isDate (sym (k .1)) ∙ k .0) (omega arith))
 
   pub made : makeDate y m d ≡ took t → readDate (printDate t) ≡ took t
   unfolding makeDate
@@ -211,16 +275,39 @@ abbrev bytes : String → List ℕ
 bytes nil = []
 bytes (cons x t) = code x ∷ bytes t
 
+-- "A Heisei year 40 must no longer pass." The days on the borders of the eras, and fields that are no date.
 abbrev pub fields : List Row
 fields =
     row "20180702" (day 0 2018 7 2) ∷
     row "18680101" (day 0 1868 1 1) ∷
     row "20991231" (day 0 2099 12 31) ∷
     row "20000229" (day 0 2000 2 29) ∷
-    row "1010101" (day 1 1868 1 1) ∷
     row "4300702" (day 4 2018 7 2) ∷
-    row "3640110" (day 3 1989 1 10) ∷
-    row "4991231" (day 4 2087 12 31) ∷
+    row "1010101" (day 1 1868 1 1) ∷
+    row "1450729" (day 1 1912 7 29) ∷
+    row "1450730" none ∷
+    row "2010729" none ∷
+    row "2010730" (day 2 1912 7 30) ∷
+    row "2151224" (day 2 1926 12 24) ∷
+    row "2151225" none ∷
+    row "3011224" none ∷
+    row "3011225" (day 3 1926 12 25) ∷
+    row "3640107" (day 3 1989 1 7) ∷
+    row "3640108" none ∷
+    row "4010107" none ∷
+    row "4010108" (day 4 1989 1 8) ∷
+    row "4310430" (day 4 2019 4 30) ∷
+    row "4310501" none ∷
+    row "5010430" none ∷
+    row "5010501" (day 5 2019 5 1) ∷
+    row "5811231" (day 5 2099 12 31) ∷
+    row "5820101" none ∷
+    row "4400101" none ∷
+    row "4991231" none ∷
+    row "5010229" none ∷
+    row "5020229" (day 5 2020 2 29) ∷
+    row "5000501" none ∷
+    row "6010101" none ∷
     row "19000229" none ∷
     row "18671231" none ∷
     row "21000101" none ∷
@@ -228,7 +315,6 @@ fields =
     row "20181301" none ∷
     row "20180700" none ∷
     row "0010101" none ∷
-    row "5010101" none ∷
     row "1000101" none ∷
     row "2018072" none ∷
     row "2018 702" none ∷
@@ -236,12 +322,37 @@ fields =
     []
 
 pub fields-right : map (λ r. readDate (bytes (r .field))) fields ≡ map (λ r. r .reads) fields
-unfolding readDate isDate inStyle exists lastDay leap eraAdds figures figure value
+unfolding readDate isDate inStyle inItsEra inForce exists lastDay leap eraAdds figures figure value
 fields-right = refl
 
--- "The latest era whose year 01 is not after it; from 2088, which no era year reaches, western style."
-pub eras-right : map (λ y. makeDate y 1 1) (1867 ∷ 1868 ∷ 1911 ∷ 1912 ∷ 1925 ∷ 1926 ∷ 1988 ∷ 1989 ∷ 2087 ∷ 2088 ∷ 2099 ∷ 2100 ∷ []) ≡
-    none ∷ day 1 1868 1 1 ∷ day 1 1911 1 1 ∷ day 2 1912 1 1 ∷ day 2 1925 1 1 ∷ day 3 1926 1 1 ∷ day 3 1988 1 1 ∷ day 4 1989 1 1 ∷ day 4 2087 1 1 ∷
-    day 0 2088 1 1 ∷ day 0 2099 1 1 ∷ none ∷ []
-unfolding makeDate makeEra latestEra isDate inStyle exists lastDay leap eraAdds
-eras-right = refl
+-- "A caller's era-style date now takes the era in force on that day": the days on the borders, and what they are made as.
+pub record Border : Type 0 where
+  pub year : ℕ
+  pub month : ℕ
+  pub day : ℕ
+  pub makes : Answer Date
+
+abbrev border : ℕ → ℕ → ℕ → Answer Date → Border
+border y m d r = record { year = y; month = m; day = d; makes = r }
+
+abbrev pub borders : List Border
+borders =
+    border 1867 12 31 none ∷
+    border 1868 1 1 (day 1 1868 1 1) ∷
+    border 1912 7 29 (day 1 1912 7 29) ∷
+    border 1912 7 30 (day 2 1912 7 30) ∷
+    border 1926 12 24 (day 2 1926 12 24) ∷
+    border 1926 12 25 (day 3 1926 12 25) ∷
+    border 1989 1 7 (day 3 1989 1 7) ∷
+    border 1989 1 8 (day 4 1989 1 8) ∷
+    border 2019 4 30 (day 4 2019 4 30) ∷
+    border 2019 5 1 (day 5 2019 5 1) ∷
+    border 2090 1 1 (day 5 2090 1 1) ∷
+    border 2099 12 31 (day 5 2099 12 31) ∷
+    border 2100 1 1 none ∷
+    border 2019 2 29 none ∷
+    []
+
+pub borders-right : map (λ b. makeDate (b .year) (b .month) (b .day)) borders ≡ map (λ b. b .makes) borders
+unfolding makeDate makeEra isDate inStyle inItsEra inForce exists lastDay leap eraAdds
+borders-right = refl

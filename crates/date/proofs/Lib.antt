@@ -1,3 +1,4 @@
 pub mod Digits
+pub mod Eras
 pub mod Style
 pub mod Laws

@@ -1,9 +1,9 @@
--- Document 01, "Date: YYYYMMDD from 1868 to 2099, or era, two-digit year 01 to 99, MMDD".
+-- Document 01, "Date: YYYYMMDD from 1868 to 2099, or era, two-digit year 01 to 99, MMDD", with the eras of document 02's ticket 1.
 -- Assumes nothing.
-use Prim.Native.Nat.{ℕ, _+_, _%_}
+use Prim.Native.Nat.{ℕ, _+_, _*_, _%_}
 use mathlib.Core.Bool.{Bool, cond, not, _&&_, _||_}
 use mathlib.Core.List.{List, [], _∷_}
-use lib.Dec.{leb, eqb}
+use lib.Dec.{leb, ltb, eqb}
 use lib.ListN.{length, getD, take, drop}
 use Rattle.cells.specs.Test.{Answer, took, refused}
 use Rattle.number.specs.Number.{none, figures, value}
@@ -23,23 +23,69 @@ lastDay y m = cond (eqb m 2 && leap y) 29 (getD (0 ∷ 31 ∷ 28 ∷ 31 ∷ 30 �
 unfoldable pub exists : ℕ → ℕ → ℕ → Bool
 exists y m d = leb 1 m && (leb m 12 && (leb 1 d && leb d (lastDay y m)))
 
--- "Eras 1 to 4 add 1867, 1911, 1925, 1988."
+-- An era: its number in a date, what it adds to its years, and its first day as the number YYYYMMDD.
+pub record Era : Type 0 where
+  pub number : ℕ
+  pub adds : ℕ
+  pub first : ℕ
+
+abbrev era : ℕ → ℕ → ℕ → Era
+era k a f = record { number = k; adds = a; first = f }
+
+-- "Add era 5, which adds 2018 to its year." "Meiji starts on 1868-01-01 (ours), Taisho on 1912-07-30, Showa on 1926-12-25, Heisei on 1989-01-08,
+-- Reiwa on 2019-05-01."
+abbrev pub eras : List Era
+eras =
+    era 1 1867 18680101 ∷
+    era 2 1911 19120730 ∷
+    era 3 1925 19261225 ∷
+    era 4 1988 19890108 ∷
+    era 5 2018 20190501 ∷
+    []
+
+-- what an era adds; 0 where there is no such era
+abbrev pub addsIn : ℕ → List Era → ℕ
+addsIn k [] = 0
+addsIn k (e ∷ es) = cond (eqb k (e .number)) (e .adds) (addsIn k es)
+
 unfoldable pub eraAdds : ℕ → ℕ
-eraAdds e = getD (0 ∷ 1867 ∷ 1911 ∷ 1925 ∷ 1988 ∷ []) e 0
+eraAdds k = addsIn k eras
+
+-- a day as the number YYYYMMDD: of two days that exist, the earlier has the lower one
+abbrev pub dayNumber : ℕ → ℕ → ℕ → ℕ
+dayNumber y m d = y * 10000 + m * 100 + d
+
+-- "Each ends the day before the next, Reiwa with 2099 (ours)": the first day after an era, given the eras after it.
+abbrev pub next : List Era → ℕ
+next [] = 21000101
+next (e ∷ es) = e .first
+
+-- the era in which a day lies; 0 where it lies in none
+abbrev pub lyingIn : ℕ → List Era → ℕ
+lyingIn n [] = 0
+lyingIn n (e ∷ es) = cond (leb (e .first) n && ltb n (next es)) (e .number) (lyingIn n es)
+
+-- "The era in force on that day."
+unfoldable pub inForce : ℕ → ℕ → ℕ → ℕ
+inForce y m d = lyingIn (dayNumber y m d) eras
 
 -- "The record keeps the style, and in era style which era": era 0 is western style.
 abbrev pub date : ℕ → ℕ → ℕ → ℕ → Date
 date era y m d = record { era = era; year = y; month = m; day = d }
 
--- a date in a style that it can be written in
+-- the year can be written in the style: in era style as a year 01 to 99 of the era
 unfoldable pub inStyle : Date → Bool
 inStyle t =
     cond (eqb (t .era) 0) (leb 1868 (t .year) && leb (t .year) 2099)
-    (leb (t .era) 4 && (leb (eraAdds (t .era) + 1) (t .year) && leb (t .year) (eraAdds (t .era) + 99)))
+    (leb (t .era) (length eras) && (leb (eraAdds (t .era) + 1) (t .year) && leb (t .year) (eraAdds (t .era) + 99)))
 
--- and its day exists
+-- in era style the day lies in the era
+unfoldable pub inItsEra : Date → Bool
+inItsEra t = eqb (t .era) 0 || eqb (t .era) (inForce (t .year) (t .month) (t .day))
+
+-- A date, by three tests in this order: "27 for an era date outside its era, after the test that the day exists".
 unfoldable pub isDate : Date → Bool
-isDate t = inStyle t && exists (t .year) (t .month) (t .day)
+isDate t = inStyle t && (exists (t .year) (t .month) (t .day) && inItsEra t)
 
 -- two digits from offset i on
 abbrev pub two : List ℕ → ℕ → ℕ
@@ -62,26 +108,20 @@ said (None f) = refused (f .number) (f .place)
 abbrev pub held : Date → Answer Date
 held t = cond (isDate t) (took t) none
 
--- Eight digits are western style, seven are era style with an era 1 to 4.
+-- Eight digits are western style, seven are era style with an era 1 to 5.
 unfoldable pub readDate : List ℕ → Answer Date
 readDate s =
     cond (figures s)
     (cond (eqb (length s) 8) (held (western s)) (cond (eqb (length s) 7 && leb 1 (value 0 (take 1 s))) (held (eraDate s)) none))
     none
 
--- "The latest era whose year 01 is not after it; from 2088, which no era year reaches, western style."
-unfoldable pub latestEra : ℕ → ℕ
-latestEra y =
-    cond (leb 2088 y) 0
-    (cond (leb (eraAdds 4 + 1) y) 4 (cond (leb (eraAdds 3 + 1) y) 3 (cond (leb (eraAdds 2 + 1) y) 2 (cond (leb (eraAdds 1 + 1) y) 1 0))))
-
 -- What a caller makes by naming western style,
 unfoldable pub makeWestern : ℕ → ℕ → ℕ → Answer Date
 makeWestern y m d = held (date 0 y m d)
 
--- "A caller who makes a date without naming one, or names era style, gets the latest era."
+-- by naming era style: "a caller's era-style date now takes the era in force on that day",
 unfoldable pub makeEra : ℕ → ℕ → ℕ → Answer Date
-makeEra y m d = held (date (latestEra y) y m d)
+makeEra y m d = held (date (inForce y m d) y m d)
 
 -- and with no style named
 unfoldable pub makeDate : ℕ → ℕ → ℕ → Answer Date

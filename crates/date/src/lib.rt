@@ -5,10 +5,10 @@ ghost use mathlib.Core.Bool.{true};
 ghost use Prim.Native.Nat.{_+_, _%_, _≤_};
 ghost use lib.ListN.{length};
 ghost use Rattle.number.specs.Number.{none as noDay, figures as figuresOf};
-ghost use Rattle.date.specs.Date.{leap as leapOf, lastDay, exists as existsOf, eraAdds, inStyle, isDate, said, held as heldOf, two as twoOf, readDate, latestEra, makeWestern, makeEra, makeDate};
+ghost use Rattle.date.specs.Date.{leap as leapOf, lastDay, exists as existsOf, eraAdds, dayNumber, inForce, inStyle, inItsEra, isDate, said, held as heldOf, two as twoOf, readDate, makeWestern, makeEra, makeDate};
 ghost use Rattle.date.specs.Print.{figure as figureOf, inWestern, inEra, printDate, text};
 
-// A day, and the style that it is written in: era 0 is western style, 1 to 4 are the eras. The year is the western one.
+// A day, and the style that it is written in: era 0 is western style, 1 to 5 are the eras. The year is the western one.
 pub struct Date {
     pub era: u8,
     pub year: u16,
@@ -32,14 +32,29 @@ pub struct Text {
 const LAST_DAYS: [u8; 13] = [0, 31, 28, 31, 30, 31, 30, 31, 31, 30, 31, 30, 31];
 
 impl Date {
-    // What each era adds to its own years.
+    // What each era adds to its own years, and its first day, YYYYMMDD. It ends the day before the next begins.
     pub const MEIJI: u16 = 1867;
+
+    pub const MEIJI_FIRST: u32 = 18680101;
 
     pub const TAISHO: u16 = 1911;
 
+    pub const TAISHO_FIRST: u32 = 19120730;
+
     pub const SHOWA: u16 = 1925;
 
+    pub const SHOWA_FIRST: u32 = 19261225;
+
     pub const HEISEI: u16 = 1988;
+
+    pub const HEISEI_FIRST: u32 = 19890108;
+
+    pub const REIWA: u16 = 2018;
+
+    pub const REIWA_FIRST: u32 = 20190501;
+
+    // The first day on which no era is in force any more.
+    pub const REIWA_OVER: u32 = 21000101;
 
     // A date in western style.
     pub fn western(year: u16, month: u8, day: u8) -> Made
@@ -53,12 +68,12 @@ impl Date {
         })
     }
 
-    // A date in the latest era; in western style where no era year reaches it.
+    // A date in the era in force on the day.
     pub fn era(year: u16, month: u8, day: u8) -> Made
         ensures { λ r. ⌜ said r ≡ makeEra year month day ⌝ }
     {
         held(Date {
-            era: latest_era(year),
+            era: in_force(year, month, day),
             year,
             month,
             day,
@@ -102,13 +117,14 @@ fn exists(year: u16, month: u8, day: u8) -> bool
 
 // What an era adds to its years; 0 where there is no such era.
 fn era_adds(era: u8) -> u16
-    ensures { λ r. ⌜ (r ≡ eraAdds era) × (r ≤ 1988) ⌝ }
+    ensures { λ r. ⌜ (r ≡ eraAdds era) × (r ≤ 2018) ⌝ }
 {
     match era {
         1 => Date::MEIJI,
         2 => Date::TAISHO,
         3 => Date::SHOWA,
         4 => Date::HEISEI,
+        5 => Date::REIWA,
         _ => 0,
     }
 }
@@ -122,13 +138,63 @@ fn in_style(t: Date) -> bool
         return (1868 <= year) & (year <= 2099);
     }
     let adds = era_adds(t.era);
-    (t.era <= 4) & ((adds + 1 <= year) & (year <= adds + 99))
+    (t.era <= 5) & ((adds + 1 <= year) & (year <= adds + 99))
+}
+
+// A day as the number YYYYMMDD.
+fn day_number(year: u16, month: u8, day: u8) -> u32
+    ensures { λ r. ⌜ r ≡ dayNumber year month day ⌝ }
+{
+    (year as u32) * 10000 + (month as u32) * 100 + (day as u32)
+}
+
+// The era in force on a day; 0 where none is.
+fn in_force(year: u16, month: u8, day: u8) -> u8
+    ensures { λ r. ⌜ r ≡ inForce year month day ⌝ }
+{
+    let on = day_number(year, month, day);
+    if Date::REIWA_OVER <= on {
+        return 0;
+    }
+    if Date::REIWA_FIRST <= on {
+        return 5;
+    }
+    if Date::HEISEI_FIRST <= on {
+        return 4;
+    }
+    if Date::SHOWA_FIRST <= on {
+        return 3;
+    }
+    if Date::TAISHO_FIRST <= on {
+        return 2;
+    }
+    if Date::MEIJI_FIRST <= on {
+        return 1;
+    }
+    0
+}
+
+// Does a date in era style lie in its era? Asked only of days that exist: of others YYYYMMDD is no order.
+fn in_its_era(t: Date) -> bool
+    requires { ⌜ existsOf (t .year) (t .month) (t .day) ≡ true ⌝ }
+    ensures { λ r. ⌜ r ≡ inItsEra t ⌝ }
+{
+    if t.era == 0 {
+        return true;
+    }
+    t.era == in_force(t.year, t.month, t.day)
 }
 
 fn is_date(t: Date) -> bool
     ensures { λ r. ⌜ r ≡ isDate t ⌝ }
 {
-    in_style(t) & exists(t.year, t.month, t.day)
+    if !in_style(t) {
+        return false;
+    }
+    if exists(t.year, t.month, t.day) {
+        return in_its_era(t);
+    }
+    false
 }
 
 // No such day or year: 27.
@@ -148,28 +214,6 @@ fn held(t: Date) -> Made
         return Made::Day(t);
     }
     none()
-}
-
-// The latest era whose year 01 is not after a year; 0 for western style.
-fn latest_era(year: u16) -> u8
-    ensures { λ r. ⌜ r ≡ latestEra year ⌝ }
-{
-    if 2088 <= year {
-        return 0;
-    }
-    if Date::HEISEI + 1 <= year {
-        return 4;
-    }
-    if Date::SHOWA + 1 <= year {
-        return 3;
-    }
-    if Date::TAISHO + 1 <= year {
-        return 2;
-    }
-    if Date::MEIJI + 1 <= year {
-        return 1;
-    }
-    0
 }
 
 // The number of two digits.

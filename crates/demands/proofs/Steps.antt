@@ -1,21 +1,20 @@
 -- What a record that is taken tells: what may stand before it, the month of record 51, and that its supplement was read.
 -- Assumes nothing.
 use Prim.Native.Nat.{ℕ, _+_, _≤_, _<_}
-use mathlib.Core.Path.{_≡_, refl, _∙_, sym, ap, subst}
+use mathlib.Core.Path.{_≡_, refl, subst}
 use mathlib.Core.Bool.{Bool, true, false}
 use mathlib.Core.List.{List, []}
 use native.Mathlib.Omega.{arith}
-use borrow.Author.Tests.{eqb-true, leb-true, ltb-true, ltb-false}
+use borrow.Author.Tests.{eqb-true, ltb-true, ltb-false}
 use lib.Dec.{eqb, leb, ltb}
 use lib.ListN.{length, getD, drop}
 use Rattle.line.specs.Fields.{nth}
 use Rattle.cells.specs.Test.{Answer, took, refused}
 use Rattle.cells.proofs.Split.{split}
-use Rattle.cells.proofs.Alike.{and-left, and-right}
-use Rattle.date.specs.Date.{inStyle, exists, isDate, readDate}
+use Rattle.date.specs.Date.{readDate}
 use Rattle.date.specs.declared.Date.{Date}
 use Rattle.number.specs.Number.{figures}
-use Rattle.date.proofs.Style.{print-none}
+use Rattle.date.proofs.Style.{numbers}
 use Rattle.date.proofs.Laws as dates
 use Rattle.supplement.specs.Supplement.{readSupplement}
 use Rattle.supplement.specs.declared.Supplement.{Supplement}
@@ -72,23 +71,8 @@ unfolding stops header directions drug some
 after-101 q n h l = not-skipped 101 q n refl (omega arith) h l
 
 -- ---- the month of a date that is read
-no-read : (t : Date) → readDate [] ≡ took t → ⊥
-unfolding readDate figures
-no-read t h = let z : _≡_ {A = ℕ} 0 1 = cc in omega arith
-
-a-date : (f : List ℕ) (t : Date) → readDate f ≡ took t → isDate t ≡ true
-a-date f t h =
-    split (isDate t) (λ e. e) (λ e. absurd (no-read t (ap readDate (sym (print-none t e) ∙ dates.back f t h) ∙ h)))
-
-month-of : (t : Date) → isDate t ≡ true → (1 ≤ t .month) × (t .month ≤ 12)
-unfolding isDate exists
-month-of t h =
-    let e : exists (t .year) (t .month) (t .day) ≡ true = and-right (inStyle t) _ h in
-    let k = and-right (leb 1 (t .month)) _ e in
-    (leb-true 1 (t .month) (and-left _ _ e), leb-true (t .month) 12 (and-left _ _ k))
-
 month-read : (f : List ℕ) (m : Answer Date) → readDate f ≡ m → isTaken m ≡ true → (1 ≤ dateIn m .month) × (dateIn m .month ≤ 12)
-month-read f (took t) e h = month-of t (a-date f t e)
+month-read f (took t) e h = let n = numbers t (dates.is-date f t e) in (n .months, n .month)
 month-read f (refused n p) e h = absurd (let z : _≡_ {A = ℕ} 0 1 = cc in omega arith)
 
 -- a supplement that is read

@@ -19,7 +19,7 @@ use Rattle.text.specs.Text as Text
 use Rattle.number.specs.Number.{figure, figures, value, shortest, readNumber}
 use Rattle.number.specs.Amount.{before, after, pointed, fraction, hundredThousandths, readAmount}
 use Rattle.number.specs.Amount as Amount
-use Rattle.date.specs.Date.{leap, lastDay, exists, eraAdds, inStyle, isDate, readDate}
+use Rattle.date.specs.Date.{leap, lastDay, exists, eraAdds, inForce, inStyle, inItsEra, isDate, readDate}
 use Rattle.usage.specs.Usage.{hour, used, inTable, inPairs, timing, says, readUsage}
 use Rattle.supplement.specs.Amount.{may, next, columns, figuresOf, decimalsOf, placesOf}
 use Rattle.supplement.specs.Supplement.{emptyWeek, moreDays, readSupplement}
@@ -139,6 +139,8 @@ worked =
     row (drugCode required 4) "a_bcd" (no-field 26) ∷
     row (date required) "20180702" (counted 0) ∷
     row (date required) "20180732" (no-field 27) ∷
+    row (date required) "5010501" (counted 0) ∷
+    row (date required) "4310501" (no-field 27) ∷
     row (site free) "0AZ" (counted 0) ∷
     row (site free) "0Aa" (no-field 27) ∷
     row (site free) "0A" (no-field 27) ∷
@@ -169,7 +171,7 @@ pub worked-right : map (λ r. readField (context before-it) (r .by) (bytes (r .f
 unfolding readField wrong first present fits valued valueSaid valueFault ordered codeFault listed each among index digit bytes
     textUpto Text.text characters allWhole starts ends single lead second
     readNumber shortest figures figure value readAmount Amount.amount before after pointed fraction hundredThousandths
-    readDate isDate inStyle exists lastDay leap eraAdds rises carries nextDrug nextSupplement
+    readDate isDate inStyle inItsEra inForce exists lastDay leap eraAdds rises carries nextDrug nextSupplement
     cells hour used inTable inPairs timing says readUsage
     may next columns figuresOf decimalsOf placesOf emptyWeek moreDays Supplementary.lastDay Supplementary.says readSupplement mayJoin
 worked-right = refl

@@ -1,20 +1,20 @@
 -- What a field of a record is read as fits the place that it is held in: a number, a date, a code.
 -- Assumes nothing.
-use Prim.Native.Nat.{ℕ, zero, suc, _≤_, zero-le}
+use Prim.Native.Nat.{ℕ, _≤_, zero-le}
 use native.Mathlib.Omega.{arith}
 use mathlib.Core.Path.{_≡_, refl}
 use mathlib.Core.Bool.{Bool, true, _&&_}
 use mathlib.Core.List.{List, [], _∷_}
-use borrow.Author.Tests.{eqb-true, eqb-false, leb-true}
+use borrow.Author.Tests.{leb-true}
 use lib.Dec.{eqb, leb}
-use lib.ListN.{length, getD, take}
+use lib.ListN.{length, take}
 use Rattle.cells.specs.Test.{Answer, took, refused}
 use Rattle.cells.proofs.Split.{split}
 use Rattle.cells.proofs.Alike.{and-right}
 use Rattle.number.specs.Number.{figures, value, shortest, readNumber}
-use Rattle.date.specs.Date.{eraAdds, isDate, western, eraDate, held, readDate}
+use Rattle.date.specs.Date.{isDate, western, eraDate, held, readDate}
 use Rattle.date.specs.declared.Date.{Date}
-use Rattle.date.proofs.Style.{numbers, western-year, era-year}
+use Rattle.date.proofs.Style.{numbers}
 use Rattle.usage.specs.Usage.{readUsage}
 use Rattle.usage.specs.declared.Instruction.{Instruction}
 use Rattle.supplement.specs.Supplement.{readSupplement}
@@ -55,29 +55,14 @@ number-most c need form lo hi is (b ∷ f) h =
 abbrev pub FitsDate : Date → Type 0
 FitsDate t = Within 255 (t .era ∷ t .month ∷ t .day ∷ []) × (t .year ≤ 65535)
 
--- no element is above what all are within
-within : {most : ℕ} {s : List ℕ} → Within most s → (k : ℕ) → getD s k 0 ≤ most
-within none zero = zero-le
-within none (suc k) = zero-le
-within (more h w) zero = h
-within (more h w) (suc k) = within w k
-
--- the latest era adds the most
-adds-most : (e : ℕ) → eraAdds e ≤ 1988
-unfolding eraAdds
-adds-most e = within (more zero-le (more (omega arith) (more (omega arith) (more (omega arith) (more (omega arith) none))))) e
-
--- a date has its month, its day, and its year in one of the styles
+-- the numbers of a date are small
 is-date-fits : (t : Date) → isDate t ≡ true → FitsDate t
 is-date-fits t h =
     let n = numbers t h in
+    let e : t .era ≤ 255 = omega (arith, n .era) in
     let m : t .month ≤ 255 = omega (arith, n .month) in
     let d : t .day ≤ 255 = omega (arith, n .day) in
-    split (eqb (t .era) 0)
-    (λ a. let z : t .era ≡ 0 = eqb-true (t .era) 0 a in
-    (more (omega arith) (more m (more d none)), omega (arith, western-year t h z .upto)))
-    (λ a. let e = era-year t h (eqb-false (t .era) 0 a) in
-    (more (omega (arith, e .most)) (more m (more d none)), omega (arith, e .upto, adds-most (t .era))))
+    (more e (more m (more d none)), omega (arith, n .upto))
 
 -- and what stands for none is 0s
 no-date : FitsDate (dateIn (refused 27 0))

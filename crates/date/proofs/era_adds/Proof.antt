@@ -24,7 +24,12 @@ unfolding eraAdds
 returns-4 c = let e : c .before .args .era ≡ 4 = omega arith in (rw e, omega arith)
 
 returns-5 : tie.Need-returns-5
-returns-5 c = (sym (adds-none (c .before .args .era) (omega arith) (omega arith) (omega arith) (omega arith)), omega arith)
+unfolding eraAdds
+returns-5 c = let e : c .before .args .era ≡ 5 = omega arith in (rw e, omega arith)
+
+returns-6 : tie.Need-returns-6
+returns-6 c =
+    (sym (adds-none (c .before .args .era) (omega arith) (omega arith) (omega arith) (omega arith) (omega arith)), omega arith)
 
 pub era-adds-spec : {M : Type 1} → statement M
-era-adds-spec = tie.close (tie.spec returns returns-2 returns-3 returns-4 returns-5)
+era-adds-spec = tie.close (tie.spec returns returns-2 returns-3 returns-4 returns-5 returns-6)

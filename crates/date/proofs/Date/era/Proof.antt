@@ -1,4 +1,4 @@
--- The rule is what is held of the latest era.
+-- The rule is what is held of the era in force.
 -- Assumes nothing.
 use mathlib.Core.Path.{_∙_}
 use borrow.Author.Needs.{needs}
@@ -6,8 +6,8 @@ use Rattle.date.specs.Date.{date, held, makeEra}
 use Rattle.date.proofs.Date.era.Statement.{statement}
 use Rattle.date.proofs.Date.era.Tie as tie
 
-latest-era-requires : tie.Need-latest-era-requires
-latest-era-requires c κs = search needs
+in-force-requires : tie.Need-in-force-requires
+in-force-requires c κs = search needs
 
 held-requires : tie.Need-held-requires
 held-requires c κs = search needs
@@ -16,7 +16,7 @@ returns : tie.Need-returns
 unfolding makeEra
 returns c =
     let a = c .before .before .args in
-    c .held .ensures ∙ (λ i. held (date (c .before .latest-era .ensures i) (a .year) (a .month) (a .day)))
+    c .held .ensures ∙ (λ i. held (date (c .before .in-force .ensures i) (a .year) (a .month) (a .day)))
 
 pub era-spec : {M : Type 1} → statement M
-era-spec = tie.close (tie.spec latest-era-requires held-requires returns)
+era-spec = tie.close (tie.spec in-force-requires held-requires returns)
