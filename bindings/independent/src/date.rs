@@ -1,4 +1,6 @@
-//! Dates: western `YYYYMMDD`, or an era, its year and `MMDD`.
+//! Dates: western `YYYYMMDD`, or an era, its year and `MMDD`. The eras' rules are those of document 02.
+
+use std::ops::Range;
 
 use crate::number::Short;
 use crate::Refusal;
@@ -25,7 +27,7 @@ pub enum Style {
     Era(Era),
 }
 
-/// The eras 1 to 4.
+/// The eras 1 to 5.
 #[derive(Clone, Copy, Debug, PartialEq, Eq)]
 #[repr(u8)]
 pub enum Era {
@@ -37,7 +39,21 @@ pub enum Era {
     Showa = 3,
     /// 4
     Heisei = 4,
+    /// 5
+    Reiwa = 5,
 }
+
+/// Year, month and day, which compare as days follow each other.
+type Day = (u16, u8, u8);
+
+// "Meiji starts on 1868-01-01 (ours), Taisho on 1912-07-30, Showa on 1926-12-25, Heisei on 1989-01-08,
+// Reiwa on 2019-05-01; each ends the day before the next, Reiwa with 2099 (ours)."
+const MEIJI: Day = (1868, 1, 1);
+const TAISHO: Day = (1912, 7, 30);
+const SHOWA: Day = (1926, 12, 25);
+const HEISEI: Day = (1989, 1, 8);
+const REIWA: Day = (2019, 5, 1);
+const AFTER_REIWA: Day = (2100, 1, 1);
 
 /// The style a caller names when making a date.
 #[derive(Clone, Copy, Debug, PartialEq, Eq)]
@@ -51,26 +67,37 @@ pub enum Wish {
 }
 
 impl Era {
-    /// From the latest back.
-    const LATEST_FIRST: [Era; 4] = [Era::Heisei, Era::Showa, Era::Taisho, Era::Meiji];
+    const ALL: [Era; 5] = [Era::Meiji, Era::Taisho, Era::Showa, Era::Heisei, Era::Reiwa];
 
-    /// "Eras 1 to 4 add 1867, 1911, 1925, 1988."
+    /// "Eras 1 to 4 add 1867, 1911, 1925, 1988", and "era 5, which adds 2018 to its year".
     pub const fn adds(self) -> u16 {
         match self {
             Era::Meiji => 1867,
             Era::Taisho => 1911,
             Era::Showa => 1925,
             Era::Heisei => 1988,
+            Era::Reiwa => 2018,
         }
     }
 
-    fn numbered(c: u8) -> Option<Era> {
-        Era::LATEST_FIRST.into_iter().find(|era| c == b'0' + *era as u8)
+    /// From its first day to the day before the next era's first.
+    const fn days(self) -> Range<Day> {
+        match self {
+            Era::Meiji => MEIJI..TAISHO,
+            Era::Taisho => TAISHO..SHOWA,
+            Era::Showa => SHOWA..HEISEI,
+            Era::Heisei => HEISEI..REIWA,
+            Era::Reiwa => REIWA..AFTER_REIWA,
+        }
     }
 
-    /// The two-digit year, 1 to 99, that a western year is in this era.
-    fn year_of(self, western: u16) -> Option<u16> {
-        western.checked_sub(self.adds()).filter(|y| (1..=99).contains(y))
+    /// "The era in force on that day."
+    fn in_force(day: Day) -> Option<Era> {
+        Era::ALL.into_iter().find(|era| era.days().contains(&day))
+    }
+
+    fn numbered(c: u8) -> Option<Era> {
+        Era::ALL.into_iter().find(|era| c == b'0' + *era as u8)
     }
 }
 
@@ -84,32 +111,34 @@ pub(crate) const fn longest_month(month: u8) -> u8 {
 }
 
 /// "From 1868 to 2099 … The day must exist (Gregorian)."
-fn exists(year: u16, month: u8, day: u8) -> bool {
+fn exists((year, month, day): Day) -> bool {
     let leap = year % 4 == 0 && (year % 100 != 0 || year % 400 == 0);
     let last = longest_month(month) - u8::from(month == 2 && !leap);
     (1868..=2099).contains(&year) && (1..=12).contains(&month) && (1..=last).contains(&day)
 }
 
 impl Date {
-    /// Makes a date. "A caller who makes a date without naming one, or names era style, gets the
-    /// latest era whose year 01 is not after it; from 2088, which no era year reaches, western
-    /// style. No such day or year is 27, place 0."
+    /// Makes a date. "A caller's era-style date now takes the era in force on that day", and so does
+    /// one for which no style is named. "No such day or year is 27, place 0."
     pub fn new(year: u16, month: u8, day: u8, wish: Wish) -> Result<Date, Refusal> {
-        if !exists(year, month, day) {
-            return Err(Refusal::new(27, 0));
-        }
         let style = match wish {
-            Wish::Western => Style::Western,
-            Wish::None | Wish::Era => latest_era(year).map_or(Style::Western, Style::Era),
+            Wish::Western => Some(Style::Western),
+            Wish::None | Wish::Era => Era::in_force((year, month, day)).map(Style::Era),
         };
-        Ok(Date { year, month, day, style })
+        let made = style.and_then(|style| Date { year, month, day, style }.sound());
+        made.ok_or(Refusal::new(27, 0))
     }
-}
 
-/// The latest era whose year 01 is not after a year, where its years reach so far.
-fn latest_era(year: u16) -> Option<Era> {
-    let era = Era::LATEST_FIRST.into_iter().find(|era| era.adds() < year)?;
-    era.year_of(year).map(|_| era)
+    /// The date, where it is one: "27 for an era date outside its era, after the test that the day
+    /// exists".
+    fn sound(self) -> Option<Date> {
+        let day = (self.year, self.month, self.day);
+        let in_style = match self.style {
+            Style::Western => true,
+            Style::Era(era) => era.days().contains(&day),
+        };
+        (exists(day) && in_style).then_some(self)
+    }
 }
 
 /// Reads the date of a field; `None` is 27.
@@ -121,15 +150,14 @@ pub fn read(text: &[u8]) -> Option<Date> {
         [c1, c2, c3, c4, rest @ ..] if rest.len() == 4 => (Style::Western, pair(*c1, *c2) * 100 + pair(*c3, *c4), rest),
         [era, tens, ones, rest @ ..] if rest.len() == 4 => {
             let era = Era::numbered(*era)?;
-            // "Two-digit year 01 to 99."
-            let year = Some(pair(*tens, *ones)).filter(|y| *y > 0)?;
-            (Style::Era(era), year + era.adds(), rest)
+            // A year 00 ends before its era begins.
+            (Style::Era(era), era.adds() + pair(*tens, *ones), rest)
         }
         _ => return None,
     };
     let month = pair(month_day[0], month_day[1]) as u8;
     let day = pair(month_day[2], month_day[3]) as u8;
-    exists(year, month, day).then_some(Date { year, month, day, style })
+    Date { year, month, day, style }.sound()
 }
 
 /// Two digits as a number.
@@ -139,9 +167,7 @@ fn pair(tens: u8, ones: u8) -> u16 {
 
 /// Writes a date; `None` where no field reads as it.
 pub fn write(date: &Date) -> Option<Short<8>> {
-    if !exists(date.year, date.month, date.day) {
-        return None;
-    }
+    let date = date.sound()?;
     let mut text = Short::default();
     let year = match date.style {
         Style::Western => {
@@ -150,7 +176,7 @@ pub fn write(date: &Date) -> Option<Short<8>> {
         }
         Style::Era(era) => {
             text.push(b'0' + era as u8);
-            era.year_of(date.year)?
+            date.year - era.adds()
         }
     };
     text.push_pair(year as u8);
@@ -175,36 +201,101 @@ mod tests {
 
     #[test]
     fn made_by_a_caller() {
-        assert_eq!(made(1989, 1, 1, Wish::None), "4010101");
-        assert_eq!(made(1988, 12, 31, Wish::Era), "3631231");
-        assert_eq!(made(2087, 12, 31, Wish::None), "4991231");
-        assert_eq!(made(2088, 1, 1, Wish::Era), "20880101");
-        assert_eq!(made(1868, 1, 1, Wish::Era), "1010101");
+        assert_eq!(made(2018, 7, 2, Wish::None), "4300702");
+        assert_eq!(made(2018, 7, 2, Wish::Western), "20180702");
         assert_eq!(made(1868, 1, 1, Wish::Western), "18680101");
-        assert_eq!(made(1867, 12, 31, Wish::None), "27");
-        assert_eq!(made(2100, 1, 1, Wish::Western), "27");
-        assert_eq!(made(2019, 2, 29, Wish::Western), "27");
+        assert_eq!(made(2099, 12, 31, Wish::Western), "20991231");
         assert_eq!(made(2000, 2, 29, Wish::Western), "20000229");
-        assert_eq!(made(1900, 2, 29, Wish::Western), "27");
+        for wish in [Wish::None, Wish::Western, Wish::Era] {
+            for (year, month, day) in [(0, 1, 1), (1867, 12, 31), (2100, 1, 1), (65_535, 1, 1)] {
+                assert_eq!(made(year, month, day, wish), "27");
+            }
+            for (month, day) in [(0, 1), (13, 1), (5, 0), (5, 32), (4, 31), (2, 29)] {
+                assert_eq!(made(2019, month, day, wish), "27");
+            }
+            assert_eq!(made(1900, 2, 29, wish), "27");
+        }
     }
 
-    /// Every text of seven or eight digits in and about the years is refused or written back.
+    /// The first and the last day of each era, named or not, and Reiwa from where no other era's years reach.
+    #[test]
+    fn the_era_in_force() {
+        for wish in [Wish::None, Wish::Era] {
+            assert_eq!(made(1868, 1, 1, wish), "1010101");
+            assert_eq!(made(1912, 7, 29, wish), "1450729");
+            assert_eq!(made(1912, 7, 30, wish), "2010730");
+            assert_eq!(made(1926, 12, 24, wish), "2151224");
+            assert_eq!(made(1926, 12, 25, wish), "3011225");
+            assert_eq!(made(1989, 1, 7, wish), "3640107");
+            assert_eq!(made(1989, 1, 8, wish), "4010108");
+            assert_eq!(made(2019, 4, 30, wish), "4310430");
+            assert_eq!(made(2019, 5, 1, wish), "5010501");
+            assert_eq!(made(2088, 1, 1, wish), "5700101");
+            assert_eq!(made(2090, 1, 1, wish), "5720101");
+            assert_eq!(made(2099, 12, 31, wish), "5811231");
+        }
+    }
+
+    /// The days about each border in both eras: the one in force has the day, the other refuses it.
+    #[test]
+    fn read_about_the_borders() {
+        let rows = [
+            ("1010101", (1868, 1, 1), "1001231"),
+            ("1450729", (1912, 7, 29), "2010729"),
+            ("2010730", (1912, 7, 30), "1450730"),
+            ("2151224", (1926, 12, 24), "3011224"),
+            ("3011225", (1926, 12, 25), "2151225"),
+            ("3640107", (1989, 1, 7), "4010107"),
+            ("4010108", (1989, 1, 8), "3640108"),
+            ("4310430", (2019, 4, 30), "5010430"),
+            ("5010501", (2019, 5, 1), "4310501"),
+            ("5811231", (2099, 12, 31), "5820101"),
+        ];
+        for (text, (year, month, day), outside) in rows {
+            let date = read(text.as_bytes()).unwrap();
+            assert_eq!((date.year, date.month, date.day), (year, month, day));
+            assert_eq!(date.style, Style::Era(Era::numbered(text.as_bytes()[0]).unwrap()));
+            assert_eq!(read(outside.as_bytes()), None, "{outside}");
+        }
+        // "A Heisei year 40 must no longer pass"; nor do a year 00, a day that is none, an era that is none.
+        for text in ["4400101", "4991231", "4000101", "5010229", "5010532", "5021301", "0010501", "6010501"] {
+            assert_eq!(read(text.as_bytes()), None, "{text}");
+        }
+    }
+
+    /// Every text of seven or eight digits in and about the years is refused or written back, and one
+    /// in era style is what a caller gets for its day: so no day has two eras.
     #[test]
     fn written_back() {
-        let mut taken = [0, 0];
+        let mut taken = [0; 6];
         for (lead, length) in (1850..=2120).map(|y| (y, 4)).chain((0..=999).map(|y| (y, 3))) {
             for month_day in 0..=1300 {
                 let text = format!("{lead:0length$}{month_day:04}");
-                if let Some(date) = read(text.as_bytes()) {
-                    taken[4 - length] += 1;
-                    assert_eq!(write(&date).as_deref(), Some(text.as_bytes()));
+                let Some(date) = read(text.as_bytes()) else { continue };
+                assert_eq!(write(&date).as_deref(), Some(text.as_bytes()));
+                match date.style {
+                    Style::Western => taken[0] += 1,
+                    Style::Era(era) => {
+                        taken[era as usize] += 1;
+                        assert_eq!(Date::new(date.year, date.month, date.day, Wish::Era), Ok(date));
+                    }
                 }
             }
         }
-        // 232 years with 57 leap days (1900 has none); and 99 years of each era.
+        // 232 years with 57 leap days (1900 has none).
         assert_eq!(taken[0], 232 * 365 + 57);
-        let era_days = |from: u16| (from..from + 99).map(|y| 365 + u32::from(exists(y, 2, 29))).sum::<u32>();
-        assert_eq!(taken[1], [1868, 1912, 1926, 1989].map(era_days).iter().sum::<u32>());
+        // Meiji: 44 years with 10 leap days, and in 1912 six months with one and 29 days.
+        assert_eq!(taken[1], 44 * 365 + 10 + 182 + 29);
+        // Taisho: what 1912 has left, 13 years with 3, and 1926 but its last week.
+        assert_eq!(taken[2], (366 - 211) + 13 * 365 + 3 + (365 - 7));
+        // Showa: that week, 62 years with 16, and the first week of 1989.
+        assert_eq!(taken[3], 7 + 62 * 365 + 16 + 7);
+        // Heisei: 1989 but that week, 29 years with 7, and four months of 2019.
+        assert_eq!(taken[4], (365 - 7) + 29 * 365 + 7 + 120);
+        // Reiwa: what 2019 has left, and 80 years with 20.
+        assert_eq!(taken[5], (365 - 120) + 80 * 365 + 20);
+        // As many as there are days, and no day twice: each has one era.
+        assert_eq!(taken[1..].iter().sum::<u32>(), taken[0]);
     }
 
     #[test]
@@ -214,9 +305,13 @@ mod tests {
         assert!(write(&Date { year: 401, ..good }).is_none());
         assert!(write(&Date { month: 0, ..good }).is_none());
         assert!(write(&Date { day: 32, ..good }).is_none());
-        assert!(write(&Date { style: Style::Era(Era::Taisho), ..good }).is_none());
-        assert!(write(&Date { style: Style::Era(Era::Showa), ..good }).is_some());
+        for era in [Era::Meiji, Era::Taisho, Era::Showa, Era::Reiwa] {
+            assert!(write(&Date { style: Style::Era(era), ..good }).is_none());
+        }
+        let held = Date { style: Style::Era(Era::Heisei), ..good };
+        assert!(write(&held).is_some());
+        assert!(write(&Date { year: 2028, ..held }).is_none());
+        assert!(write(&Date { day: 32, ..held }).is_none());
         assert!(read(b"2018070").is_none() && read(b"201807021").is_none() && read(b"").is_none());
-        assert!(read(b"4000101").is_none() && read(b"5010501").is_none());
     }
 }

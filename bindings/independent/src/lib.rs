@@ -1,9 +1,9 @@
 //! Prescription sheets, read and written: usage codes of sixteen characters, supplementary codes of
 //! eight, runs of date codes, and the whole file.
 //!
-//! Every rule quotes or cites document 01, "What we are building and its rules". Numbers of refusals
-//! are those of its table "Numbers a caller gets back". Characters, codes and fields count from 1,
-//! offsets from 0.
+//! Every rule quotes or cites document 01, "What we are building and its rules", or document 02,
+//! "Customer requests after the base", where it changes a rule of 01. Numbers of refusals are those of
+//! 01's table "Numbers a caller gets back". Characters, codes and fields count from 1, offsets from 0.
 
 pub mod date;
 pub mod days;

@@ -139,7 +139,14 @@ fn issue_date() {
             ("51,", (28, 1)),
             ("51,20180702,", (25, 0)),
             ("51,4300702", (0, 0)),
-            ("51,5010501", (27, 1)),
+            ("51,4310430", (0, 0)),
+            ("51,4310501", (27, 1)),
+            ("51,5010430", (27, 1)),
+            ("51,5010501", (0, 0)),
+            ("51,5811231", (0, 0)),
+            ("51,5820101", (27, 1)),
+            ("51,4400101", (27, 1)),
+            ("51,6010501", (27, 1)),
             ("51,20190229", (27, 1)),
             ("51,18671231", (27, 1)),
             ("51,4000101", (27, 1)),
@@ -230,6 +237,20 @@ fn supplements_of_an_rp() {
     assert_eq!(answer(&["D6100000", "D7100000"]), Err((31, 5)));
     assert_eq!(answer(&["D0123456", "D0700000"]), Ok(14));
     assert_eq!(answer(&["D0123450", "D0700000"]), Err((31, 5)));
+}
+
+/// The issue month is that of the date in era style too: April is the last of the twelve from May on.
+#[test]
+fn issue_month_in_reiwa() {
+    let answer = |issue: &str, months: [&str; 2]| {
+        let extras = [format!("181,1,1,8,A,D{}100000,", months[0]), format!("181,1,2,8,A,D{}100000,", months[1])];
+        let lines = [&SAMPLE[..8], &[issue], &SAMPLE[9..11], &[&extras[0], &extras[1]], &SAMPLE[12..]].concat();
+        check(&sheet(&lines)).map_err(|r| (r.number, r.field))
+    };
+    assert_eq!(answer("51,5010501", ["5", "4"]), Ok(14));
+    assert_eq!(answer("51,5010501", ["4", "5"]), Err((31, 5)));
+    assert_eq!(answer("51,4310430", ["4", "5"]), Ok(14));
+    assert_eq!(answer("51,4310501", ["5", "4"]), Err((27, 1)));
 }
 
 #[test]
@@ -416,9 +437,13 @@ fn writer_refuses_as_the_reader_does() {
         assert_eq!(put_instead(1, kept(5, &[b"", text])), refused(26));
     }
     assert_eq!(put_instead(1, kept(5, &[&[b'x'; 200]])), Ok(()));
-    let date = Date { year: 2018, month: 7, day: 2, style: Style::Era(Era::Meiji) };
-    assert_eq!(put_instead(7, Record::Issue(date)), refused(27));
-    assert_eq!(put_instead(7, Record::Issue(Date { style: Style::Era(Era::Heisei), ..date })), Ok(()));
+    let in_2019 = |month, day, era| Record::Issue(Date { year: 2019, month, day, style: Style::Era(era) });
+    assert_eq!(put_instead(7, in_2019(4, 30, Era::Heisei)), Ok(()));
+    assert_eq!(put_instead(7, in_2019(4, 30, Era::Reiwa)), refused(27));
+    assert_eq!(put_instead(7, in_2019(5, 1, Era::Heisei)), refused(27));
+    assert_eq!(put_instead(7, in_2019(5, 1, Era::Reiwa)), Ok(()));
+    assert_eq!(put_instead(7, in_2019(5, 1, Era::Meiji)), refused(27));
+    assert_eq!(put_instead(7, in_2019(5, 32, Era::Reiwa)), refused(27));
     let rp = Rp { rp: RpNumber(1), form: 1, form_name: b"", quantity: 14 };
     assert_eq!(put_instead(8, Record::Rp(Rp { rp: RpNumber(1000), ..rp })), refused(27));
     assert_eq!(put_instead(8, Record::Rp(Rp { form: 0, ..rp })), refused(27));
