@@ -1,5 +1,5 @@
 /* Throws bytes at the library and checks what must hold of any: nothing but what is lent is touched, a refusal leaves what it must, a file that
- * is taken is written back byte for byte, and what is written is read as the same.
+ * is taken is written back byte for byte, what is written is read as the same, and an issue date is the one that is made of its day.
  *
  * With clang's libFuzzer (-fsanitize=fuzzer) this is its target. Built without it (-DYWS_ALONE) it has a loop of its own that changes the
  * bytes of the files it is given:
@@ -86,6 +86,17 @@ static void run(uint8_t issue, const uint8_t *bytes, size_t length) {
     taken++;
 }
 
+/* Each day lies in one era: a date that was read is the one that is made of its day in its style, with the same characters. */
+static void issue_date(const uint64_t date[YWS_LEN_DATE], const uint8_t *characters) {
+    uint64_t made[YWS_LEN_DATE];
+    uint8_t text[YWS_LEN_DATE_TEXT];
+    int western = date[YWS_DATE_ERA] == YWS_DATE_ERA_WESTERN;
+    uint16_t number = yws_date_make((uint16_t) date[YWS_DATE_YEAR], (uint8_t) date[YWS_DATE_MONTH], (uint8_t) date[YWS_DATE_DAY],
+                                    western ? YWS_DATE_STYLE_WESTERN : YWS_DATE_STYLE_ERA, made, text);
+    hold(number == YWS_OK && memcmp(made, date, sizeof made) == 0, "issue date: made otherwise than read");
+    hold(memcmp(text, characters, western ? 8 : 7) == 0, "issue date: its characters are made otherwise");
+}
+
 static void sheet(const uint8_t *file, size_t length) {
     static uint8_t before[YWS_MOST_FILE + 8];
     uint64_t records = 77, refusal[YWS_LEN_REFUSAL], told[YWS_LEN_REFUSAL], own, record[YWS_LEN_RECORD];
@@ -114,6 +125,7 @@ static void sheet(const uint8_t *file, size_t length) {
         read++;
         hold(*at > reader_before.state[YWS_STATE_AT] && *at < length, "sheet: the place does not rise");
         hold(all_zero(reader.state + STATE_LEFT, YWS_LEN_STATE - STATE_LEFT), "sheet: what is left over of the reader's state");
+        if (record[YWS_ANY_RECORD] == YWS_RECORD_ISSUE) issue_date(record + YWS_ISSUE_DATE, file + reader_before.state[YWS_STATE_AT] + strlen("51,"));
         /* A file cut short may leave too little room for the closing byte, then the record is refused for that and nothing is written. */
         memcpy(before, out, room);
         writer_before = writer;

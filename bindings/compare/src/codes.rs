@@ -385,7 +385,8 @@ pub fn sets(random: &mut Random, count: usize, ask: &mut impl FnMut(Question)) {
     }
 }
 
-/// Dates: the corners of the years with all months and days; then every day of the years that are dates.
+/// Dates: the corners of the years and the years in which eras change, with all months and days; then every day of the years that are dates, in each
+/// style.
 pub fn dates(ask: &mut impl FnMut(Question)) {
     let corners = (0..=2).chain(1866..=1870).chain(1899..=1901).chain(1910..=1914).chain(1924..=1928);
     let corners = corners.chain(1986..=1991).chain(1999..=2001).chain(2017..=2021).chain(2086..=2090);
@@ -407,7 +408,7 @@ pub fn dates(ask: &mut impl FnMut(Question)) {
     for year in 1868..=2099 {
         for month in 1..=12 {
             for day in 1..=31 {
-                date(year, month, day, (1 + (year + u16::from(month) + u16::from(day)) % 2) as u8);
+                (0..=2).for_each(|style| date(year, month, day, style));
             }
         }
     }

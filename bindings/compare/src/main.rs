@@ -27,12 +27,13 @@ use random::Random;
 const SHOWN: usize = 5;
 
 /// What is asked about, with its seed and how many are drawn.
-const KINDS: [(&str, u64, usize); 8] = [
+const KINDS: [(&str, u64, usize); 9] = [
     ("usage codes", 101, 200_000),
     ("supplementary codes", 102, 200_000),
     ("runs", 103, 20_000),
     ("sets", 104, 20_000),
     ("dates", 0, 0),
+    ("issue dates", 0, 0),
     ("sheets", 105, 40_000),
     ("records put", 106, 12_000),
     ("states that no call gave", 107, 20_000),
@@ -45,7 +46,7 @@ fn expected(kind: &str) -> &'static [u16] {
         "supplementary codes" => &[0, 1, 2, 5, 6, 8, 9, 35],
         "runs" => &[0, 1, 2, 5, 6, 8, 9, 10, 12],
         "sets" => &[0, 10, 11, 33],
-        "dates" => &[0, 27],
+        "dates" | "issue dates" => &[0, 27],
         "sheets" => &[0, 20, 21, 22, 23, 24, 25, 26, 27, 28, 29, 30, 31, 32],
         // The end is none of them: it comes only after a drug.
         "states that no call gave" => &[0, 20, 21, 22, 23, 24, 32, 33, 34],
@@ -133,6 +134,7 @@ fn compare_kind(
             "runs" => codes::runs(&mut random, &known, count, &mut ask),
             "sets" => codes::sets(&mut random, count, &mut ask),
             "dates" => codes::dates(&mut ask),
+            "issue dates" => sheets::issue_dates(&mut ask),
             "sheets" => sheets::sheets(&mut random, &sheets, count, &mut ask),
             "records put" => sheets::puts(&mut random, &sheets, count, &mut ask),
             _ => states::states(&mut random, &sheets, count, &mut ask),

@@ -337,6 +337,7 @@ fn date_of(n: &[u64]) -> Date {
         2 => Some(Style::Era(Era::Taisho)),
         3 => Some(Style::Era(Era::Showa)),
         4 => Some(Style::Era(Era::Heisei)),
+        5 => Some(Style::Era(Era::Reiwa)),
         _ => None,
     };
     match style {

@@ -1,4 +1,4 @@
-//! Questions about sheets: drawn whole, damaged, and records put one by one.
+//! Questions about sheets: issued on all kinds of dates, drawn whole, damaged, and records put one by one.
 
 use crate::answer::Question;
 use crate::codes::grown_supplement;
@@ -65,6 +65,8 @@ const TRICKY: &[&[u8]] = &[
     b"20000229",
     b"19000229",
     b"2100101",
+    b"4310501",
+    b"5010430",
     b"5010501",
     b"1990230",
     b"18671231",
@@ -177,11 +179,17 @@ fn kept(random: &mut Random, number: usize) -> Line {
     line(number, &fields)
 }
 
+/// The last year of each era, from Meiji on.
+const LAST_YEARS: [usize; 5] = [45, 15, 64, 31, 81];
+
+/// A date, but for a day before its era in the era's first year or after it in the last.
 fn date(random: &mut Random) -> Vec<u8> {
     let (month, day) = (random.between(1, 12), random.between(1, 28));
-    let text = match random.below(3) {
-        0 => format!("{}{:02}{month:02}{day:02}", random.between(1, 4), random.between(1, 99)),
-        _ => format!("{}{month:02}{day:02}", random.between(1868, 2099)),
+    let text = if random.once_in(3) {
+        let era = random.between(1, LAST_YEARS.len());
+        format!("{era}{:02}{month:02}{day:02}", random.between(1, LAST_YEARS[era - 1]))
+    } else {
+        format!("{}{month:02}{day:02}", random.between(1868, 2099))
     };
     text.into_bytes()
 }
@@ -455,30 +463,67 @@ pub fn sheet(random: &mut Random, corpus: &[Vec<u8>]) -> Vec<u8> {
     bytes
 }
 
-/// Sheets: each checked, read record by record, and rewritten with some room.
+/// Month and day of the last and the first days of eras, and a leap day.
+const BORDER_DAYS: [(u64, u64); 11] =
+    [(1, 1), (1, 7), (1, 8), (2, 29), (4, 30), (5, 1), (7, 29), (7, 30), (12, 24), (12, 25), (12, 31)];
+
+/// The years in which eras begin and end, with their neighbours outside; Heisei's 40th and 100th.
+const BORDER_YEARS: [u64; 10] = [1867, 1868, 1912, 1926, 1989, 2019, 2028, 2088, 2099, 2100];
+
+/// A short sheet, issued on a date.
+fn issued(date: &str) -> Vec<u8> {
+    let header = "JAHIS5\r\n1,\r\n5,\r\n11,\r\n12,\r\n13,\r\n22,\r\n23,\r\n";
+    format!("{header}51,{date}\r\n101,1,1,,1\r\n111,1,1,,A,\r\n201,1,1,,1,,A,1,1,T\r\n\x1a").into_bytes()
+}
+
+/// Issue dates: read, with every first three digits, so every era number and year, and with every western year; held and put, in every era.
+pub fn issue_dates(ask: &mut impl FnMut(Question)) {
+    let mut records = records_of(&issued("20180702"));
+    for (month, day) in BORDER_DAYS {
+        let era_years = (0..=999).map(|era_year| format!("{era_year:03}"));
+        for year in era_years.chain((1866..=2101).map(|year| year.to_string())) {
+            about(&issued(&format!("{year}{month:02}{day:02}")), LONGEST, ask);
+        }
+        for year in BORDER_YEARS {
+            for era in 0..=9 {
+                if let Some((issue, _)) = records.iter_mut().find(|(numbers, _)| numbers[0] == 51) {
+                    issue[1..5].copy_from_slice(&[era, year, month, day]);
+                }
+                ask(put_in_turn(&records, LONGEST));
+            }
+        }
+    }
+}
+
+/// A sheet checked, read record by record, and rewritten with some room.
+fn about(file: &[u8], room: usize, ask: &mut impl FnMut(Question)) {
+    ask(Question::new(b'C', file));
+    ask(Question::new(b'A', file));
+    let mut bytes = (room as u32).to_le_bytes().to_vec();
+    bytes.extend(file);
+    ask(Question { asked: b'W', bytes });
+}
+
+/// Sheets, with room of chance.
 pub fn sheets(random: &mut Random, corpus: &[Vec<u8>], count: usize, ask: &mut impl FnMut(Question)) {
-    let mut about = |random: &mut Random, file: &[u8]| {
-        ask(Question::new(b'C', file));
-        ask(Question::new(b'A', file));
+    let mut in_some_room = |random: &mut Random, file: &[u8]| {
         let room = match random.below(8) {
             0 => random.below(file.len() + 2),
             1 => file.len(),
             2 => file.len().saturating_sub(1),
             _ => LONGEST + random.below(64),
         };
-        let mut bytes = (room as u32).to_le_bytes().to_vec();
-        bytes.extend(file);
-        ask(Question { asked: b'W', bytes });
+        about(file, room, ask);
     };
-    corpus.iter().for_each(|file| about(random, file));
+    corpus.iter().for_each(|file| in_some_room(random, file));
     for length in [0, 1, 2, 3, 7, 8, 9, 10, LONGEST, LONGEST + 1, 65_536] {
         let any: Vec<u8> = (0..length).map(|_| random.byte()).collect();
-        about(random, &any);
-        about(random, &vec![b'a'; length]);
+        in_some_room(random, &any);
+        in_some_room(random, &vec![b'a'; length]);
     }
     for _ in 0..count {
         let file = sheet(random, corpus);
-        about(random, &file);
+        in_some_room(random, &file);
     }
 }
 
@@ -493,12 +538,7 @@ pub fn puts(random: &mut Random, corpus: &[Vec<u8>], count: usize, ask: &mut imp
         } else {
             joined(&grown(random))
         };
-        let mut records = Vec::new();
-        if let Ok(mut reader) = model::open(&file) {
-            while let Ok(Some(record)) = reader.read() {
-                records.push(alone(&file, model::record_numbers(&file, &record)));
-            }
-        }
+        let mut records = records_of(&file);
         let damages = *random.of(&[0, 1, 2, 4]);
         for _ in 0..damages {
             damage_records(random, &mut records);
@@ -509,19 +549,37 @@ pub fn puts(random: &mut Random, corpus: &[Vec<u8>], count: usize, ask: &mut imp
             2 => 0,
             _ => LONGEST + random.below(4096),
         };
-        let mut bytes = (room as u32).to_le_bytes().to_vec();
-        for (numbers, lent) in &records {
-            numbers.iter().for_each(|n| bytes.extend(n.to_le_bytes()));
-            bytes.extend((lent.len() as u16).to_le_bytes());
-            bytes.extend(lent);
-        }
-        if bytes.len() < 100_000 {
-            ask(Question { asked: b'P', bytes });
+        let question = put_in_turn(&records, room);
+        if question.bytes.len() < 100_000 {
+            ask(question);
         }
     }
 }
 
+/// A record's numbers and the bytes of its texts.
 type Put = (model::RecordNumbers, Vec<u8>);
+
+/// The records of a file, as far as it is taken.
+fn records_of(file: &[u8]) -> Vec<Put> {
+    let mut records = Vec::new();
+    if let Ok(mut reader) = model::open(file) {
+        while let Ok(Some(record)) = reader.read() {
+            records.push(alone(file, model::record_numbers(file, &record)));
+        }
+    }
+    records
+}
+
+/// Records put one by one into some room.
+fn put_in_turn(records: &[Put], room: usize) -> Question {
+    let mut bytes = (room as u32).to_le_bytes().to_vec();
+    for (numbers, lent) in records {
+        numbers.iter().for_each(|n| bytes.extend(n.to_le_bytes()));
+        bytes.extend((lent.len() as u16).to_le_bytes());
+        bytes.extend(lent);
+    }
+    Question { asked: b'P', bytes }
+}
 
 /// Where a record's places stand among its numbers.
 fn places(number: u64) -> &'static [usize] {
