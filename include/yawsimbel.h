@@ -101,7 +101,7 @@ enum yws_result {
     YWS_ERR_ORDER = 24,    /* record out of order */
     YWS_ERR_FIELDS = 25,   /* number of fields */
     YWS_ERR_TEXT = 26,     /* text badly formed, with an end space, or too long */
-    YWS_ERR_VALUE = 27,    /* number, date, amount, site or drug code; yws_date_make: no such day or year */
+    YWS_ERR_VALUE = 27,    /* number, date (no such day, or one outside its era), amount, site or drug code; yws_date_make: no such day or year */
     YWS_ERR_PRESENT = 28,  /* required field empty, or forbidden one filled */
     YWS_ERR_CODE = 29,     /* code refused; its own number and place follow */
     YWS_ERR_COUNTER = 30,  /* RP number or serial not as ordered */
@@ -559,10 +559,11 @@ uint16_t yws_writer_open(uint8_t *out, uint64_t room, struct yws_writer *writer)
 
 /* Puts a record, laid out as yws_sheet_next has it, whose texts are offsets into the `length` bytes of `lent`: a file that was read, or a
  * buffer with the texts of one record. A text whose offsets are not inside `lent`, or fall, is one that no field takes (26, 27 for a site, 28
- * where none may stand). A number that may be empty is empty where it is 0; one that may not is then 27. Numbers after a record's last are not
- * looked at. A code whose first number (YWS_USAGE_CLASS, YWS_SUPPLEMENT_LETTER) is 0 is empty: zeros leave it out. YWS_ERR_RECORD, with the reader's
- * number in *own (YWS_ERR_ORDER after closing and before opening), where the reader would refuse the record here; then YWS_ERR_ROOM exactly when the
- * line with its CR LF and the closing 1Ah pass `room` or YWS_MOST_FILE. *own is 0 but for YWS_ERR_RECORD. */
+ * where none may stand). A number that may be empty is empty where it is 0; one that may not is then 27. A date that is none is 27 too, also one outside
+ * its era. Numbers after a record's last are not looked at. A code whose first number (YWS_USAGE_CLASS, YWS_SUPPLEMENT_LETTER) is 0 is empty: zeros
+ * leave it out. YWS_ERR_RECORD, with the reader's number in *own (YWS_ERR_ORDER after closing and before opening), where the reader would refuse the
+ * record here; then YWS_ERR_ROOM exactly when the line with its CR LF and the closing 1Ah pass `room` or YWS_MOST_FILE. *own is 0 but for
+ * YWS_ERR_RECORD. */
 uint16_t yws_writer_put(uint8_t *out, uint64_t room, struct yws_writer *writer, const uint64_t record[YWS_LEN_RECORD], const uint8_t *lent,
                         uint64_t length, uint64_t *own);
 
@@ -579,22 +580,25 @@ enum {
     YWS_DATE_DAY = 3
 };
 
-enum yws_date_era { /* the first character of a date of seven; its years 01 to 99 count from the one named here. There is no 5 in JAHIS 17-108 Ver.1.4 */
+/* The first character of a date of seven. An era begins on the day named here, whose year is its year 01, and ends the day before the next one begins,
+ * Reiwa with 2099. A date outside its era is none (YWS_ERR_VALUE). JAHIS 17-108 Ver.1.4 has no 5; sheets now come with it. */
+enum yws_date_era {
     YWS_DATE_ERA_WESTERN = 0, /* no era: a date of eight characters */
-    YWS_DATE_ERA_MEIJI = 1,   /* 1868 */
-    YWS_DATE_ERA_TAISHO = 2,  /* 1912 */
-    YWS_DATE_ERA_SHOWA = 3,   /* 1926 */
-    YWS_DATE_ERA_HEISEI = 4   /* 1989 */
+    YWS_DATE_ERA_MEIJI = 1,   /* 1868-01-01 */
+    YWS_DATE_ERA_TAISHO = 2,  /* 1912-07-30 */
+    YWS_DATE_ERA_SHOWA = 3,   /* 1926-12-25 */
+    YWS_DATE_ERA_HEISEI = 4,  /* 1989-01-08 */
+    YWS_DATE_ERA_REIWA = 5    /* 2019-05-01 */
 };
 
 enum yws_date_style {
     YWS_DATE_STYLE_ANY = 0, /* none named: as YWS_DATE_STYLE_ERA; so is any other number */
     YWS_DATE_STYLE_WESTERN = 1,
-    YWS_DATE_STYLE_ERA = 2  /* the latest era whose year 01 is not after the date; western style from 2088 */
+    YWS_DATE_STYLE_ERA = 2  /* the era in force on that day; every day that can be made has one */
 };
 
 /* Makes a date of a western year: into `numbers` its four numbers, as record 51 has them from YWS_ISSUE_DATE on; into `text` its characters,
- * eight in western style, in era style seven and a 0. YWS_ERR_VALUE where there is no such day or year. */
+ * eight in western style, in era style seven and a 0. YWS_ERR_VALUE where there is no such day, or the year is not 1868 to 2099. */
 uint16_t yws_date_make(uint16_t year, uint8_t month, uint8_t day, uint8_t style, uint64_t numbers[YWS_LEN_DATE], uint8_t text[YWS_LEN_DATE_TEXT]);
 
 /* ---- Words. These stand in messages/yawsimbel_messages.c, to be compiled with your program, and not in libyawsimbel.a, in which all is proved. */

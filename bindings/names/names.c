@@ -222,23 +222,25 @@ static void runs(void) {
     IS(refusal[YWS_RUN_REFUSAL_CODE], 2);
 }
 
-static void date(uint16_t year, uint8_t style, uint64_t era, const char *characters) {
+static void date(uint16_t year, uint8_t month, uint8_t day, uint8_t style, uint64_t era, const char *characters) {
     uint64_t numbers[YWS_LEN_DATE];
     uint8_t text[YWS_LEN_DATE_TEXT];
-    IS(yws_date_make(year, 9, 3, style, numbers, text), YWS_OK);
+    IS(yws_date_make(year, month, day, style, numbers, text), YWS_OK);
     IS(numbers[YWS_DATE_ERA], era);
     IS(numbers[YWS_DATE_YEAR], year);
-    IS(numbers[YWS_DATE_MONTH], 9);
-    IS(numbers[YWS_DATE_DAY], 3);
+    IS(numbers[YWS_DATE_MONTH], month);
+    IS(numbers[YWS_DATE_DAY], day);
     IS(strncmp((char *) text, characters, sizeof text), 0);
 }
 
 static void dates(void) {
-    date(2018, YWS_DATE_STYLE_WESTERN, YWS_DATE_ERA_WESTERN, "20180903");
-    date(2018, YWS_DATE_STYLE_ERA, YWS_DATE_ERA_HEISEI, "4300903");
-    date(1930, YWS_DATE_STYLE_ANY, YWS_DATE_ERA_SHOWA, "3050903");
-    date(1920, YWS_DATE_STYLE_ERA, YWS_DATE_ERA_TAISHO, "2090903");
-    date(1900, YWS_DATE_STYLE_ERA, YWS_DATE_ERA_MEIJI, "1330903");
+    date(2018, 9, 3, YWS_DATE_STYLE_WESTERN, YWS_DATE_ERA_WESTERN, "20180903");
+    date(2019, 5, 1, YWS_DATE_STYLE_ERA, YWS_DATE_ERA_REIWA, "5010501");
+    date(2019, 4, 30, YWS_DATE_STYLE_ERA, YWS_DATE_ERA_HEISEI, "4310430");
+    date(2018, 9, 3, YWS_DATE_STYLE_ERA, YWS_DATE_ERA_HEISEI, "4300903");
+    date(1930, 9, 3, YWS_DATE_STYLE_ANY, YWS_DATE_ERA_SHOWA, "3050903");
+    date(1920, 9, 3, YWS_DATE_STYLE_ERA, YWS_DATE_ERA_TAISHO, "2090903");
+    date(1900, 9, 3, YWS_DATE_STYLE_ERA, YWS_DATE_ERA_MEIJI, "1330903");
 }
 
 static const char sheet[] = "JAHIS5\r\n1,CLINIC,,\r\n5,A\r\n11,B\r\n12,1\r\n13,1\r\n22,\r\n23,1\r\n51,4300903\r\n101,7,3,FORM,14\r\n"
@@ -388,6 +390,7 @@ static void results(void) {
     IS(sheet_result("51,20180903,\r\n"), YWS_ERR_FIELDS);
     IS(sheet_result("24, A\r\n"), YWS_ERR_TEXT);
     IS(sheet_result("51,20181303\r\n"), YWS_ERR_VALUE);
+    IS(sheet_result("51,4310501\r\n"), YWS_ERR_VALUE);
     IS(sheet_result("51,\r\n"), YWS_ERR_PRESENT);
     IS(sheet_result("51,20180903\r\n101,1,1,,1\r\n111,1,2,1012044400000000,W,\r\n"), YWS_ERR_CODE);
     IS(sheet_result("51,20180903\r\n101,1,1,,1\r\n111,2,1,,W,\r\n"), YWS_ERR_COUNTER);

@@ -14,9 +14,9 @@ use crate::{Reason, Record, Sheet};
 /// let date: Date = "20180702".parse()?;
 /// assert_eq!((date.year(), date.month(), date.day(), date.era()), (2018, 7, 2, None));
 ///
-/// let made = Date::make(2018, 7, 2, Style::Era)?;
-/// assert_eq!(made.era(), Some(Era::Heisei));
-/// assert_eq!(made.to_string(), "4300702");
+/// let made = Date::make(2019, 5, 1, Style::Era)?;
+/// assert_eq!(made.era(), Some(Era::Reiwa));
+/// assert_eq!(made.to_string(), "5010501");
 /// # Ok::<(), yawsimbel::Reason>(())
 /// ```
 #[derive(Clone, Copy, PartialEq, Eq, Hash)]
@@ -27,18 +27,21 @@ pub struct Date {
     day: u8,
 }
 
-/// An era.
+/// An era. It ends the day before the next one begins.
 #[derive(Clone, Copy, Debug, PartialEq, Eq, PartialOrd, Ord, Hash)]
+#[non_exhaustive]
 #[repr(u8)]
 pub enum Era {
-    /// From 1868 (明治).
+    /// From 1868-01-01 (明治).
     Meiji = 1,
-    /// From 1912 (大正).
+    /// From 1912-07-30 (大正).
     Taisho = 2,
-    /// From 1926 (昭和).
+    /// From 1926-12-25 (昭和).
     Showa = 3,
-    /// From 1989 (平成); later years go on in it.
+    /// From 1989-01-08 (平成).
     Heisei = 4,
+    /// From 2019-05-01 (令和), to the end of 2099.
+    Reiwa = 5,
 }
 
 /// The style that a date is to be made in.
@@ -47,7 +50,7 @@ pub enum Era {
 pub enum Style {
     /// Year, month, day.
     Western = 1,
-    /// The latest era whose year 01 is not after the date; western style from 2088. It is what a date has for which no style is named.
+    /// The era in force on that day. It is what a date has for which no style is named.
     #[default]
     Era = 2,
 }
@@ -64,7 +67,7 @@ const BEFORE: &[u8] = b"JAHIS5\r\n1,\r\n5,\r\n11,\r\n12,\r\n13,\r\n22,\r\n23,\r\
 const AFTER: &[u8] = b"\r\n\x1a";
 
 impl Date {
-    /// Makes a date of a western year. [`Reason::Value`] where there is no such day or year.
+    /// Makes a date of a western year, 1868 to 2099. [`Reason::Value`] where there is no such day or year.
     pub fn make(year: u16, month: u8, day: u8, style: Style) -> Result<Date, Reason> {
         let mut numbers = [0; 4];
         match ffi::date_make(year, month, day, style as u8, &mut numbers, &mut [0; 8]) {
@@ -73,13 +76,14 @@ impl Date {
         }
     }
 
-    /// Makes a date of a year of an era, 1 to 99, also one that the era did not reach. [`Reason::Value`] where there is no such day or year.
+    /// Makes a date of a year of an era, counted from 1. [`Reason::Value`] where there is no such day, or it is outside the era.
     ///
     /// ```
-    /// use yawsimbel::{Date, Era};
+    /// use yawsimbel::{Date, Era, Reason};
     ///
     /// let date = Date::of_era(Era::Showa, 64, 1, 7)?;
     /// assert_eq!((date.year(), date.to_string().as_str()), (1989, "3640107"));
+    /// assert_eq!(Date::of_era(Era::Showa, 64, 1, 8), Err(Reason::Value));
     /// # Ok::<(), yawsimbel::Reason>(())
     /// ```
     pub fn of_era(era: Era, year: u8, month: u8, day: u8) -> Result<Date, Reason> {
@@ -126,6 +130,7 @@ impl Date {
             2 => Some(Era::Taisho),
             3 => Some(Era::Showa),
             4 => Some(Era::Heisei),
+            5 => Some(Era::Reiwa),
             _ => return None,
         };
         Some(Date { era, year: n[1].try_into().ok()?, month: n[2].try_into().ok()?, day: n[3].try_into().ok()? })
@@ -145,6 +150,7 @@ impl Era {
             Era::Taisho => 1912,
             Era::Showa => 1926,
             Era::Heisei => 1989,
+            Era::Reiwa => 2019,
         }
     }
 }
@@ -276,12 +282,28 @@ mod tests {
 
     use super::*;
 
+    /// The eras and their first days.
+    const FIRST_DAYS: [(Era, (u16, u8, u8)); 5] = [
+        (Era::Meiji, (1868, 1, 1)),
+        (Era::Taisho, (1912, 7, 30)),
+        (Era::Showa, (1926, 12, 25)),
+        (Era::Heisei, (1989, 1, 8)),
+        (Era::Reiwa, (2019, 5, 1)),
+    ];
+
+    /// 232 years of which 57 are leap years.
+    const DAYS: usize = 232 * 365 + 57;
+
+    /// Every day from 1868 to 2099, and some that there are not.
+    fn days() -> impl Iterator<Item = (u16, u8, u8)> {
+        (1868..=2099).flat_map(|y| (1..=12).flat_map(move |m| (1..=31).map(move |d| (y, m, d))))
+    }
+
     /// The library's own characters of every day, in both styles.
     #[test]
     fn texts_are_the_library_s() {
         let mut seen = 0;
-        let days = (1868..=2099).flat_map(|y| (1..=12).flat_map(move |m| (1..=31).map(move |d| (y, m, d))));
-        for (year, month, day) in days {
+        for (year, month, day) in days() {
             for style in [Style::Western, Style::Era] {
                 let mut text = [0; 8];
                 if ffi::date_make(year, month, day, style as u8, &mut [0; 4], &mut text) != 0 {
@@ -289,26 +311,68 @@ mod tests {
                     continue;
                 }
                 let date = Date::make(year, month, day, style).unwrap();
+                assert_eq!(date.era().is_some(), style == Style::Era);
                 let length = if date.era().is_some() { 7 } else { 8 };
                 assert_eq!(date.text().as_str().as_bytes(), &text[..length]);
                 seen += 1;
             }
         }
-        // 232 years of which 57 are leap years, twice.
-        assert_eq!(seen, 2 * (232 * 365 + 57));
+        assert_eq!(seen, 2 * DAYS);
     }
 
-    /// Every year of every era is read as its western year, and written with the same characters.
+    /// Every day lies in the era that era style names, and in no other.
     #[test]
-    fn eras_are_read_back() {
-        for era in [Era::Meiji, Era::Taisho, Era::Showa, Era::Heisei] {
-            for year in 1..=99 {
-                let date = Date::of_era(era, year, 12, 31).unwrap();
-                assert_eq!((date.era(), date.year()), (Some(era), era.first_year() - 1 + u16::from(year)));
-                assert_eq!(date.to_string().parse(), Ok(date));
+    fn a_day_has_one_era() {
+        let mut seen = 0;
+        for (year, month, day) in days() {
+            let Ok(made) = Date::make(year, month, day, Style::Era) else { continue };
+            let in_force = FIRST_DAYS.iter().rev().find(|(_, first)| *first <= (year, month, day)).unwrap().0;
+            assert_eq!((made.era(), made.year(), made.month(), made.day()), (Some(in_force), year, month, day));
+            for (era, _) in FIRST_DAYS {
+                // 0 in the years before the era: it has no such year.
+                let year_of_era = (year + 1).saturating_sub(era.first_year()).try_into().unwrap();
+                let expected = if era == in_force { Ok(made) } else { Err(Reason::Value) };
+                assert_eq!(Date::of_era(era, year_of_era, month, day), expected, "{era:?} {made:?}");
             }
-            assert_eq!(Date::of_era(era, 0, 1, 1), Err(Reason::Value));
-            assert_eq!(Date::of_era(era, 100, 1, 1), Err(Reason::Value));
+            seen += 1;
+        }
+        assert_eq!(seen, DAYS);
+    }
+
+    /// The first and the last day of each era, and the days beside them.
+    #[test]
+    fn eras_begin_and_end() {
+        for (text, date) in [
+            ("1010101", (1868, 1, 1)),
+            ("1450729", (1912, 7, 29)),
+            ("2010730", (1912, 7, 30)),
+            ("2151224", (1926, 12, 24)),
+            ("3011225", (1926, 12, 25)),
+            ("3640107", (1989, 1, 7)),
+            ("4010108", (1989, 1, 8)),
+            ("4310430", (2019, 4, 30)),
+            ("5010501", (2019, 5, 1)),
+            ("5811231", (2099, 12, 31)),
+        ] {
+            let date = Date::make(date.0, date.1, date.2, Style::Era).unwrap();
+            assert_eq!((date.to_string().as_str(), text.parse()), (text, Ok(date)));
+        }
+        for text in [
+            "1001231", "1450730", "2010729", "2151225", "3011224", "3640108", "4010107", "4310501", "5010430",
+            "5820101",
+        ] {
+            assert_eq!(text.parse::<Date>(), Err(Reason::Value), "{text}");
+        }
+    }
+
+    /// Years that no era has, also those of three digits.
+    #[test]
+    fn years_outside_eras() {
+        assert_eq!("4400101".parse::<Date>(), Err(Reason::Value));
+        for (era, _) in FIRST_DAYS {
+            for year in [0, 82, 99, 100, 101, 255] {
+                assert_eq!(Date::of_era(era, year, 6, 15), Err(Reason::Value), "{era:?} {year}");
+            }
         }
     }
 }

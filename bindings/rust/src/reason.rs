@@ -54,7 +54,7 @@ pub enum Reason {
     Fields = 25,
     /// A text is badly formed, has a space at an end, or is too long.
     Text = 26,
-    /// A number, date, amount, site or drug code.
+    /// A number, date, amount, site or drug code; a date outside its era too.
     Value = 27,
     /// A required field is empty, or a forbidden one filled.
     Present = 28,
@@ -115,7 +115,9 @@ impl Reason {
             Reason::Order => "the record is out of order",
             Reason::Fields => "the record has too few or too many fields",
             Reason::Text => "the text has bad characters or a space at an end, or is too long",
-            Reason::Value => "no such number, date, amount, site or drug code may stand here",
+            Reason::Value => {
+                "no such number, date, amount, site or drug code may stand here, or the date is outside its era"
+            }
             Reason::Present => "a required field is empty, or one that must be empty is filled",
             Reason::Code => "the usage or supplementary code is refused",
             Reason::Counter => "the RP number or the serial is not one that may follow here",

@@ -541,7 +541,7 @@ mod newer {
             numbers[at] = 1 << 16;
             assert_eq!(record(&numbers), None, "{at}");
         }
-        assert_eq!(record(&[51, 5, 2018, 7, 2]), None);
+        assert_eq!(record(&[51, 6, 2018, 7, 2]), None);
         assert_eq!(record(&[111, 3, 3, 0, 0, 0]), None);
         assert_eq!(record(&[111, 1, 2, 0, 0, 0, 3]), None);
         assert_eq!(record(&[201, 1, 1, 4, 1, 0, 0, 0, 0, 1, 1]), None);

@@ -220,16 +220,27 @@ fn refused_runs() {
 #[test]
 fn dates() {
     let date = Date::make(1989, 1, 1, Style::Era).unwrap();
-    assert_eq!((date.era(), date.year(), date.month(), date.day()), (Some(Era::Heisei), 1989, 1, 1));
-    assert_eq!((date.to_string(), format!("{date:?}")), ("4010101".into(), "1989-01-01 (Heisei 1)".into()));
-    assert_eq!("4010101".parse(), Ok(date));
-    assert_eq!(Date::make(2088, 1, 1, Style::Era).unwrap().to_string(), "20880101");
-    assert_eq!(Date::make(2019, 2, 29, Style::Western), Err(Reason::Value));
+    assert_eq!((date.era(), date.year(), date.month(), date.day()), (Some(Era::Showa), 1989, 1, 1));
+    assert_eq!((date.to_string(), format!("{date:?}")), ("3640101".into(), "1989-01-01 (Showa 64)".into()));
+    assert_eq!("3640101".parse(), Ok(date));
+    let date: Date = "5010501".parse().unwrap();
+    assert_eq!((date.era(), date.year(), date.month(), date.day()), (Some(Era::Reiwa), 2019, 5, 1));
+    assert_eq!((date.to_string(), format!("{date:?}")), ("5010501".into(), "2019-05-01 (Reiwa 1)".into()));
+    assert_eq!(Date::make(2088, 1, 1, Style::Era).unwrap().to_string(), "5700101");
+    assert_eq!(Date::make(2090, 1, 1, Style::default()).unwrap().to_string(), "5720101");
+    for style in [Style::Western, Style::Era] {
+        for (year, month, day) in [(2019, 2, 29), (1867, 12, 31), (2100, 1, 1)] {
+            assert_eq!(Date::make(year, month, day, style), Err(Reason::Value));
+        }
+    }
     assert_eq!(Date::try_from((2018, 7, 2)), "20180702".parse());
     assert_eq!(format!("{:?}", Date::try_from((2018, 7, 2)).unwrap()), "2018-07-02");
     for text in
-        ["20190229", "18671231", "21000101", "0010101", "5010101", "201807", "2018-7-2", "201807020", "20180702 "]
+        ["20190229", "18671231", "21000101", "0010101", "6010101", "201807", "2018-7-2", "201807020", "20180702 "]
     {
+        assert_eq!(text.parse::<Date>(), Err(Reason::Value), "{text}");
+    }
+    for text in ["4310501", "4400101", "5010101", "5030229", "5820101"] {
         assert_eq!(text.parse::<Date>(), Err(Reason::Value), "{text}");
     }
     assert_eq!("".parse::<Date>(), Err(Reason::Present));
