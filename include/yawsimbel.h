@@ -54,7 +54,7 @@
 extern "C" {
 #endif
 
-#define YWS_VERSION "0.1.0" /* of this header */
+#define YWS_VERSION "0.2.0" /* of this header */
 
 /* ---- Lengths. */
 
