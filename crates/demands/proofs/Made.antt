@@ -14,7 +14,6 @@ use Rattle.order.proofs.Bools.{clash}
 use Rattle.number.specs.Number.{figures, value}
 use Rattle.number.specs.Number.{none}
 use Rattle.date.specs.Date.{exists, inForce, date, isDate, western as inWestern, eraDate, held, readDate, makeWestern, makeEra, makeDate}
-use Rattle.date.specs.Print.{printDate}
 use Rattle.date.specs.declared.Date.{Date}
 use Rattle.date.proofs.Laws.{back, is-date, written, western-date, era-date}
 use Rattle.demands.specs.Numbers.{DateNumber, DateTextNumber}

@@ -2,7 +2,7 @@
 -- Assumes nothing.
 use Prim.Native.Nat.{ℕ, _+_, _≤_, _<_}
 use mathlib.Core.Path.{_≡_, refl, subst}
-use mathlib.Core.Bool.{Bool, true, false}
+use mathlib.Core.Bool.{true, false}
 use mathlib.Core.List.{List, []}
 use native.Mathlib.Omega.{arith}
 use borrow.Author.Tests.{eqb-true, ltb-true, ltb-false}
@@ -13,7 +13,6 @@ use Rattle.cells.specs.Test.{Answer, took, refused}
 use Rattle.cells.proofs.Split.{split}
 use Rattle.date.specs.Date.{readDate}
 use Rattle.date.specs.declared.Date.{Date}
-use Rattle.number.specs.Number.{figures}
 use Rattle.date.proofs.Style.{numbers}
 use Rattle.date.proofs.Laws as dates
 use Rattle.supplement.specs.Supplement.{readSupplement}
