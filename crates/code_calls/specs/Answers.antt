@@ -29,7 +29,7 @@ abbrev pub orCount : Answer ℕ → ℕ → ℕ
 orCount (took n) before = n
 orCount (refused n p) before = before
 
--- "A caller who makes a date without naming one, or names era style": 1 is western style, 2 era style, any other number none named.
+-- A caller names the style by a number: 1 is western style, 2 era style, any other number none.
 unfoldable pub makeStyled : ℕ → ℕ → ℕ → ℕ → Answer Date
 makeStyled y m d style = cond (eqb style 1) (makeWestern y m d) (cond (eqb style 2) (makeEra y m d) (makeDate y m d))
 

@@ -23,7 +23,7 @@ use Rattle.date.specs.Print.{inWestern, inEra, printDate}
 use Rattle.date.specs.declared.Date.{Date}
 use Rattle.date.proofs.Digits.{figure-last}
 use Rattle.date.proofs.Eras.{Lies, Spanned, numbered, styled, only, some}
-use Rattle.date.proofs.Style.{read-none, read-other, read-eight, read-seven, print-eight, print-seven, a-day, its-day, numbers, era-year}
+use Rattle.date.proofs.Style.{read-none, read-other, read-eight, read-seven, print-eight, print-seven, a-day, its-day, lies, numbers, era-year}
 
 -- Two answers of which document 01's number and values are the same are equal.
 pub one-made : (a b : Made) → said a ≡ said b → a ≡ b
@@ -236,6 +236,16 @@ pub one-era : (y m d : ℕ) → 1868 ≤ y → y ≤ 2099 → exists y m d ≡ t
 unfolding makeEra
 one-era y m d l u x =
     record { lies = some y m d (can-span y m d (l, u, x)); only = only y m d; made = rw (era-date y m d .1 (l, u, x)) }
+
+-- What is read in era style is what is made of its day: no other seven characters read as that day.
+pub era-made : (s : List ℕ) (t : Date) → readDate s ≡ took t → (t .era ≡ 0 → ⊥) → makeEra (t .year) (t .month) (t .day) ≡ took t
+unfolding makeEra
+era-made s t h e =
+    let i = is-date s t h in
+    let k : t .era ≡ inForce (t .year) (t .month) (t .day) = only (t .year) (t .month) (t .day) (t .era) (lies t i e) in
+    let w : date (inForce (t .year) (t .month) (t .day)) (t .year) (t .month) (t .day) ≡ t =
+    λ j. record { era = sym k j; year = t .year; month = t .month; day = t .day } in
+    ap held w ∙ rw i
 
 -- What a caller makes, in western style, in era style, or with no style named, is written as a field that reads as the date.
 module _ (y m d : ℕ) (t : Date) where

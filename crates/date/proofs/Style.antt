@@ -115,10 +115,11 @@ pub record Numbers (t : Date) : Type 0 where
   pub upto : t .year ≤ 2099
   pub months : 1 ≤ t .month
   pub month : t .month ≤ 12
+  pub days : 1 ≤ t .day
   pub day : t .day ≤ 31
 
 -- and in era style its year in its era.
-pub record Era (t : Date) : Type 0 where
+pub record EraYear (t : Date) : Type 0 where
   pub most : t .era ≤ 5
   pub from : eraAdds (t .era) + 1 ≤ t .year
   pub upto : t .year ≤ eraAdds (t .era) + 99
@@ -143,7 +144,7 @@ module _ (t : Date) (h : isDate t ≡ true) where
       found (t .year) (t .month) (t .day) (λ z. absurd (e (k ∙ z)))
       (subst (λ (x : ℕ). Lies (dayNumber (t .year) (t .month) (t .day)) x eras) (sym k))
 
-  pub era-year : (t .era ≡ 0 → ⊥) → Era t
+  pub era-year : (t .era ≡ 0 → ⊥) → EraYear t
   unfolding inStyle
   era-year e =
       let a = and-parts (leb (t .era) 5) _ (simp (ne-eqb (t .era) 0 e) at in-style) in
@@ -154,17 +155,12 @@ module _ (t : Date) (h : isDate t ≡ true) where
   unfolding inStyle
   numbers =
       let n = a-day (t .year) (t .month) (t .day) its-day in
+      let of : t .era ≤ 5 → 1868 ≤ t .year → t .year ≤ 2099 → Numbers t =
+      λ e l u. record { era = e; from = l; upto = u; months = n .months; month = n .month; days = n .days; day = n .day } in
       split (eqb (t .era) 0)
       (λ e. let z : t .era ≡ 0 = eqb-true (t .era) 0 e in
       let a = and-parts (leb 1868 (t .year)) _ (simp e at in-style) in
-      record { era = omega arith; from = leb-true 1868 (t .year) (a .0); upto = leb-true (t .year) 2099 (a .1); months = n .months; month = n .month; day = n .day })
+      of (omega arith) (leb-true 1868 (t .year) (a .0)) (leb-true (t .year) 2099 (a .1)))
       (λ e. let z = eqb-false (t .era) 0 e in
       let s = within (dayNumber (t .year) (t .month) (t .day)) (t .era) (lies z) in
-      record {
-        era = era-year z .most;
-        from = omega (arith, s .from, n .month, n .day);
-        upto = omega (arith, s .upto);
-        months = n .months;
-        month = n .month;
-        day = n .day;
-      })
+      of (era-year z .most) (omega (arith, s .from, n .month, n .day)) (omega (arith, s .upto)))

@@ -32,8 +32,8 @@ pub record Era : Type 0 where
 abbrev era : ℕ → ℕ → ℕ → Era
 era k a f = record { number = k; adds = a; first = f }
 
--- "Add era 5, which adds 2018 to its year." "Meiji starts on 1868-01-01 (ours), Taisho on 1912-07-30, Showa on 1926-12-25, Heisei on 1989-01-08,
--- Reiwa on 2019-05-01."
+-- "Eras 1 to 4 add 1867, 1911, 1925, 1988." "Add era 5, which adds 2018 to its year." "Meiji starts on 1868-01-01 (ours), Taisho on 1912-07-30, Showa
+-- on 1926-12-25, Heisei on 1989-01-08, Reiwa on 2019-05-01."
 abbrev pub eras : List Era
 eras =
     era 1 1867 18680101 ∷
@@ -119,7 +119,7 @@ readDate s =
 unfoldable pub makeWestern : ℕ → ℕ → ℕ → Answer Date
 makeWestern y m d = held (date 0 y m d)
 
--- by naming era style: "a caller's era-style date now takes the era in force on that day",
+-- by naming era style: "a caller's era-style date now takes the era in force on that day" (where none is, there is no date in western style either),
 unfoldable pub makeEra : ℕ → ℕ → ℕ → Answer Date
 makeEra y m d = held (date (inForce y m d) y m d)
 

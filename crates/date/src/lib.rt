@@ -2,7 +2,7 @@
 use cells::Fault;
 ghost use mathlib.Core.Path.{_≡_};
 ghost use mathlib.Core.Bool.{true};
-ghost use Prim.Native.Nat.{_+_, _%_, _≤_};
+ghost use Prim.Native.Nat.{_+_, _≤_};
 ghost use lib.ListN.{length};
 ghost use Rattle.number.specs.Number.{none as noDay, figures as figuresOf};
 ghost use Rattle.date.specs.Date.{leap as leapOf, lastDay, exists as existsOf, eraAdds, dayNumber, inForce, inStyle, inItsEra, isDate, said, held as heldOf, two as twoOf, readDate, makeWestern, makeEra, makeDate};
@@ -174,7 +174,7 @@ fn in_force(year: u16, month: u8, day: u8) -> u8
     0
 }
 
-// Does a date in era style lie in its era? Asked only of days that exist: of others YYYYMMDD is no order.
+// Does a date in era style lie in its era? The ticket's order: it is asked once the day exists. No answer depends on that.
 fn in_its_era(t: Date) -> bool
     requires { ⌜ existsOf (t .year) (t .month) (t .day) ≡ true ⌝ }
     ensures { λ r. ⌜ r ≡ inItsEra t ⌝ }

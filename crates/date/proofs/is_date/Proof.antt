@@ -24,12 +24,16 @@ exists-requires c κs = search needs
 returns-2 : tie.Need-returns-2
 unfolding isDate
 returns-2 c =
-    rw (sym (c .before .before .before .before .in-style .ensures) ∙ not-false _ (c .before .before .before .if1 .left), sym (c .before .before .exists .ensures) ∙ c .before .if2 .taken) (c .in-its-era .ensures)
+    let s = sym (c .before .before .before .before .in-style .ensures) ∙ not-false _ (c .before .before .before .if1 .left) in
+    let x = sym (c .before .before .exists .ensures) ∙ c .before .if2 .taken in
+    rw (s, x) (c .in-its-era .ensures)
 
 returns-3 : tie.Need-returns-3
 unfolding isDate
 returns-3 c =
-    rw (sym (c .before .before .before .in-style .ensures) ∙ not-false _ (c .before .before .if1 .left), sym (c .before .exists .ensures) ∙ c .if2 .left)
+    let s = sym (c .before .before .before .in-style .ensures) ∙ not-false _ (c .before .before .if1 .left) in
+    let x = sym (c .before .exists .ensures) ∙ c .if2 .left in
+    rw (s, x)
 
 pub is-date-spec : {M : Type 1} → statement M
 is-date-spec = tie.close (tie.spec in-style-requires returns exists-requires in-its-era-requires returns-2 returns-3)
