@@ -486,9 +486,8 @@ pub fn issue_dates(ask: &mut impl FnMut(Question)) {
         }
         for year in BORDER_YEARS {
             for era in 0..=9 {
-                if let Some((issue, _)) = records.iter_mut().find(|(numbers, _)| numbers[0] == 51) {
-                    issue[1..5].copy_from_slice(&[era, year, month, day]);
-                }
+                let issue = records.iter_mut().find(|(numbers, _)| numbers[0] == 51).expect("a sheet has its 51");
+                issue.0[1..5].copy_from_slice(&[era, year, month, day]);
                 ask(put_in_turn(&records, LONGEST));
             }
         }
