@@ -2,3 +2,4 @@ pub mod Masks
 pub mod Table
 pub mod Faults
 pub mod Laws
+pub mod Former

@@ -23,7 +23,7 @@ same (r ∷ rs) k =
     equal (getD masks.fifth k 0) (r .fifth) && (equal (getD masks.sixth k 0) (r .sixth) && (equal (getD masks.condition k 0) (r .condition) && same rs (k + 1)))
 
 -- three characters stand in a row
-abbrev inLine : Rows → ℕ → ℕ → ℕ → Bool
+abbrev pub inLine : Rows → ℕ → ℕ → ℕ → Bool
 inLine r a b c = among (r .fifth) a && (among (r .sixth) b && among (r .condition) c)
 
 abbrev row : ℕ → Rows
@@ -46,14 +46,14 @@ module _ (a b c : ℕ) (ha : a < 256) (hb : b < 256) (hc : c < 256) where
       let e : k + suc j ≡ k + 1 + j = omega arith in
       rw e (lines rs (k + 1) (and-right (equal (getD masks.condition k 0) (r .condition)) _ y) j (omega arith))
 
-  line : (k : ℕ) → k < 16 → masks.inRow k a b c ≡ inLine (row k) a b c
+  line : (k : ℕ) → k < masks.lines → masks.inRow k a b c ≡ inLine (row k) a b c
   unfolding masks.fifth masks.sixth masks.condition has value among
   line k h = let e : 0 + k ≡ k = omega arith in rw e at (lines table8 0 refl k h)
 
-  pub step : (k : ℕ) → k < 16 → masks.inRow k a b c ≡ false → inTable (drop k table8) a b c ≡ inTable (drop (k + 1) table8) a b c
+  pub step : (k : ℕ) → k < masks.lines → masks.inRow k a b c ≡ false → inTable (drop k table8) a b c ≡ inTable (drop (k + 1) table8) a b c
   unfolding inTable
   step k h n = rw (add-one, drop-cons table8 k (rows "" "" "") h) (simp (sym (line k h) ∙ n))
 
-  pub found : (k : ℕ) → k < 16 → masks.inRow k a b c ≡ true → inTable (drop k table8) a b c ≡ true
+  pub found : (k : ℕ) → k < masks.lines → masks.inRow k a b c ≡ true → inTable (drop k table8) a b c ≡ true
   unfolding inTable
   found k h y = rw (drop-cons table8 k (rows "" "" "") h) (simp (sym (line k h) ∙ y))

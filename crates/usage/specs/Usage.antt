@@ -97,8 +97,9 @@ abbrev pub clockTests : List ℕ → List Test
 clockTests s = cells 13 3 (clockCells (digit (char s 4))) s
 
 -- "Kind 5: 4th is 0; 5th to 7th a row of table 8; 8th one of 0 1 2 3 4 5 6 8 C; 9th one of 0 to 9, A, C."
--- "The 63 rows: 11 to 17, 21 to 25, 41 to 49, 53, 61 to 67, 72, 81, 82, 91, 92, B1 to B7, W1, W2 with condition 0;
--- 31, 32, 52, 71 with 2 or 7; 51 with 2 or 5; A1 with 2 or 4; A2 to A9 with 2": for each line the 5th, the 6th and the condition.
+-- Document 02, ticket 2: "its footnote lets the starred events take any of the conditions 0, 2, 4, 5, 6, 7. The starred ones are 31, 32, 51, 52, 71
+-- and A1 to A9. So 63 rows become 127: 43 with condition 0, 14 with six each." The 43 stay document 01's: "11 to 17, 21 to 25, 41 to 49, 53, 61 to 67,
+-- 72, 81, 82, 91, 92, B1 to B7, W1, W2 with condition 0". For each line the 5th, the 6th and the condition.
 pub record Rows : Type 0 where
   pub fifth : String
   pub sixth : String
@@ -107,6 +108,10 @@ pub record Rows : Type 0 where
 -- Rows by their three texts.
 abbrev pub rows : String → String → String → Rows
 rows a b c = record { fifth = a; sixth = b; condition = c }
+
+-- The conditions of a starred event.
+abbrev pub starred : String
+starred = "024567"
 
 -- The lines of the table.
 abbrev pub table8 : List Rows
@@ -121,12 +126,10 @@ table8 =
     rows "9" "12" "0" ∷
     rows "B" "1234567" "0" ∷
     rows "W" "12" "0" ∷
-    rows "3" "12" "27" ∷
-    rows "5" "2" "27" ∷
-    rows "7" "1" "27" ∷
-    rows "5" "1" "25" ∷
-    rows "A" "1" "24" ∷
-    rows "A" "23456789" "2" ∷ []
+    rows "3" "12" starred ∷
+    rows "5" "12" starred ∷
+    rows "7" "1" starred ∷
+    rows "A" "123456789" starred ∷ []
 
 -- Three characters are one of the rows.
 unfoldable pub inTable : List Rows → ℕ → ℕ → ℕ → Bool

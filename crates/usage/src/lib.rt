@@ -8,7 +8,7 @@ ghost use Rattle.cells.specs.Text.{digit as digitOf};
 ghost use Rattle.cells.specs.Test.{test as testOf, first, judge};
 ghost use Rattle.cells.specs.Code.Mask.{value, has};
 ghost use Rattle.usage.specs.Usage.{hour as hourOf, used as usedOf, frame, occasions, counted, fullDay, atFifteen, table8, inTable, timing, meals as mealsOf, outside as outsideOf, clock as clockOf, eventOf, says, readUsage, said as saidOf, mealTests, everyTests, clockTests, eventTests, outsideTests, pairTests};
-ghost use Rattle.usage.specs.Code.Sets.{details as detailSet, kinds as kindSet, pairs as pairSet, inRow};
+ghost use Rattle.usage.specs.Code.Sets.{details as detailSet, kinds as kindSet, pairs as pairSet, lines, inRow};
 
 // Kinds 1 and 6. Bedtime and waking are 1 where they are meant. Kind 1: supper, lunch and breakfast are 0 where they are not meant, else
 // 1 before, 2 just before, 6 during, 3 just after, 4 after, 5 two hours after; the hour is 15 or none. Kind 6, where they are evening,
@@ -138,8 +138,12 @@ const OUTSIDE: [u64; 7] = [
 const NOTHING: [u64; 0] = [];
 
 // Table 8 by lines that share their conditions: what may stand 5th, 6th and 7th. The 5ths are 1 2 4 5 6 7 8 9 B W with condition 0, then
-// 3 5 7, 5, A, A with others.
-const FIFTH: [u64; 16] = [
+// 3 5 7 A with those of a starred event, 0 2 4 5 6 7.
+const LINES: usize = 14;
+
+const STARRED: u64 = 0b1111_0101;
+
+const FIFTH: [u64; LINES] = [
     0b10,
     0b100,
     0b1_0000,
@@ -153,31 +157,27 @@ const FIFTH: [u64; 16] = [
     0b1000,
     0b10_0000,
     0b1000_0000,
-    0b10_0000,
-    0b100_0000_0000,
     0b100_0000_0000,
 ];
 
-const SIXTH: [u64; 16] = [
-    0b1111_1110,
-    0b11_1110,
-    0b11_1111_1110,
-    0b1000,
-    0b1111_1110,
-    0b100,
-    0b110,
-    0b110,
-    0b1111_1110,
-    0b110,
-    0b110,
-    0b100,
-    0b10,
-    0b10,
-    0b10,
-    0b11_1111_1100,
+const SIXTH: [u64; LINES] = [
+    0b1111_1110, // 11 to 17
+    0b11_1110, // 21 to 25
+    0b11_1111_1110, // 41 to 49
+    0b1000, // 53
+    0b1111_1110, // 61 to 67
+    0b100, // 72
+    0b110, // 81, 82
+    0b110, // 91, 92
+    0b1111_1110, // B1 to B7
+    0b110, // W1, W2
+    0b110, // 31, 32
+    0b110, // 51, 52
+    0b10, // 71
+    0b11_1111_1110, // A1 to A9
 ];
 
-const CONDITION: [u64; 16] = [
+const CONDITION: [u64; LINES] = [
     0b1,
     0b1,
     0b1,
@@ -188,12 +188,10 @@ const CONDITION: [u64; 16] = [
     0b1,
     0b1,
     0b1,
-    0b1000_0100,
-    0b1000_0100,
-    0b1000_0100,
-    0b10_0100,
-    0b1_0100,
-    0b100,
+    STARRED,
+    STARRED,
+    STARRED,
+    STARRED,
 ];
 
 // For `cells::first_fault`: no character of a row has to rise, and no value is too high.
@@ -381,7 +379,7 @@ fn clock_fault(s: &[u8]) -> Fault
 
 // Do three characters stand in the rows of the kth line of table 8?
 fn in_row(k: usize, a: u8, b: u8, c: u8) -> bool
-    requires { ⌜ k < 16 ⌝ }
+    requires { ⌜ k < lines ⌝ }
     ensures { λ r. ⌜ r ≡ inRow k a b c ⌝ }
 {
     among(FIFTH[k], a) & (among(SIXTH[k], b) & among(CONDITION[k], c))
@@ -392,7 +390,7 @@ fn in_table(a: u8, b: u8, c: u8) -> bool
     ensures { λ r. ⌜ r ≡ inTable table8 a b c ⌝ }
 {
     let mut k: usize = 0;
-    while k < 16 {
+    while k < LINES {
         if in_row(k, a, b, c) {
             return true;
         }

@@ -1,4 +1,4 @@
--- Document 01, "Worked by hand": the rows marked ● that are codes or runs, one table with one proof.
+-- Document 01, "Worked by hand": the rows marked ● that are codes or runs, as document 02's tickets have left them, one table with one proof.
 -- Assumes nothing.
 use Prim.Native.Nat.{ℕ}
 use Prim.Native.String.{String}
@@ -10,6 +10,7 @@ use Rattle.cells.specs.Cells.{cells}
 use Rattle.usage.specs.Usage.{hour, used, inTable, inPairs, timing, says, readUsage, noOccasions, noHours, noEvent}
 use Rattle.usage.specs.declared.Occasions.{Occasions}
 use Rattle.usage.specs.declared.Hours.{Hours}
+use Rattle.usage.specs.declared.Event.{Event}
 use Rattle.usage.specs.declared.Instruction.{Instruction}
 use Rattle.supplement.specs.Amount.{may, next, columns, figuresOf, decimalsOf, placesOf}
 use Rattle.supplement.specs.Supplement.{lastDay, emptyWeek, moreDays, readSupplement, saying, noWeek, noDays}
@@ -70,6 +71,21 @@ threeHours a b c =
       about = 0;
     }))
 
+-- As needed, with no interval and no limit: the event, the condition.
+asNeeded : ℕ → ℕ → ℕ → Result
+asNeeded group event condition =
+    instruction (took (record {
+      class = 1;
+      detail = 0;
+      kind = 5;
+      times = 0;
+      occasions = noOccasions;
+      start = 24;
+      hours = noHours;
+      event = record { group = group; event = event; condition = condition; interval = 0; limit = 0 };
+      about = 0;
+    }))
+
 rows : List Row
 rows =
     -- oral, three times, after each meal
@@ -81,7 +97,8 @@ rows =
     row (usage "1013074400000000") (instruction (refused 5 6)) ∷
     row (usage "101200040P000000") (instruction (refused 8 10)) ∷
     row (usage "1033IMS000000000") (threeHours 8 12 18) ∷
-    row (usage "1050310000000000") (instruction (refused 8 5)) ∷
+    -- blood pressure up, taken since ticket 2
+    row (usage "1050310000000000") (asNeeded 3 1 0) ∷
     -- Monday, Thursday
     row (supplement "W0100100")
     (supplemented (took (saying 87 0 0
@@ -95,7 +112,7 @@ rows =
     row (supplement "V31.0NNN") (supplemented (took (saying 86 0 0 noWeek 0 noDays 0 0 3 10 1))) ∷ []
 
 worked : map (λ r. read (r .input)) rows ≡ map (λ r. r .result) rows
-unfolding rows row oral threeHours read bytes among index digit first cells hour used inTable inPairs timing says readUsage
+unfolding rows row oral threeHours asNeeded read bytes among index digit first cells hour used inTable inPairs timing says readUsage
     may next columns figuresOf decimalsOf placesOf lastDay emptyWeek moreDays S.says readSupplement
     upto0 distance lastOf follows allowed eights stop codesOf maskOf daysAt setOf readRun
 worked = refl

@@ -1,4 +1,5 @@
 -- `usage::in_row` meets its contract: the three masks at the row's number.
+use mathlib.Core.Bool.{_&&_}
 use borrow.Author.Needs.{needs}
 use Rattle.usage.specs.Code.Sets.{fifth, sixth, condition}
 use Rattle.usage.proofs.in_row.Statement.{statement}
@@ -33,7 +34,7 @@ among-requires-3 c κs = search needs
 
 returns : tie.Need-returns
 unfolding fifth sixth condition
-returns c = simp (c .before .before .among .ensures, c .before .among2 .ensures, c .among3 .ensures)
+returns c = λ i. c .before .before .among .ensures i && (c .before .among2 .ensures i && c .among3 .ensures i)
 
 pub in-row-spec : {M : Type 1} → statement M
 in-row-spec =

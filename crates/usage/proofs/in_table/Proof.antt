@@ -5,15 +5,16 @@ use native.Mathlib.Omega.{arith}
 use borrow.Author.Needs.{needs}
 use lib.ListN.{drop}
 use Rattle.usage.specs.Usage.{table8, inTable}
+use Rattle.usage.specs.Code.Sets.{lines}
 use Rattle.usage.proofs.Table.{step, found}
 use Rattle.usage.proofs.in_table.Statement.{statement}
 use Rattle.usage.proofs.in_table.Tie as tie
 
 abbrev Inv-loop : tie.InvT-loop
-Inv-loop a b c k₀ k = (k ≤ 16) × (inTable (drop k table8) a b c ≡ inTable table8 a b c)
+Inv-loop a b c k₀ k = (k ≤ lines) × (inTable (drop k table8) a b c ≡ inTable table8 a b c)
 
 abbrev μ-loop : tie.MeasureT-loop
-μ-loop a b c k₀ k = 16 - k
+μ-loop a b c k₀ k = lines - k
 
 loop-holds : tie.Need-loop-holds Inv-loop μ-loop
 loop-holds c = search needs
@@ -43,7 +44,7 @@ returns-2 : tie.Need-returns-2 Inv-loop μ-loop
 unfolding inTable
 returns-2 c =
     let a = c .before .before .args in
-    let e : 16 ≡ c .before .loop .k = omega arith in
+    let e : lines ≡ c .before .loop .k = omega arith in
     ap (λ (k : ℕ). inTable (drop k table8) (a .a) (a .b) (a .c)) e ∙ c .before .loop .inv .1
 
 pub in-table-spec : {M : Type 1} → statement M

@@ -49,21 +49,25 @@ pairs c =
     cond (among "1" c) 0x800005
     (cond (among "2" c) 0b1001 (cond (among "3" c) 0b10000010001 (cond (among "4" c) 0b10000100001 (cond (among "6" c) 0b10000000001 0))))
 
+-- how many lines table 8 has
+abbrev pub lines : ℕ
+lines = 14
+
 -- table 8: what may stand 5th in each of its lines
 unfoldable pub fifth : List ℕ
 fifth =
     0b10 ∷ 0b100 ∷ 0b10000 ∷ 0b100000 ∷ 0b1000000 ∷ 0b10000000 ∷ 0b100000000 ∷ 0b1000000000 ∷
-    0b100000000000 ∷ 0x100000000 ∷ 0b1000 ∷ 0b100000 ∷ 0b10000000 ∷ 0b100000 ∷ 0b10000000000 ∷ 0b10000000000 ∷ []
+    0b100000000000 ∷ 0x100000000 ∷ 0b1000 ∷ 0b100000 ∷ 0b10000000 ∷ 0b10000000000 ∷ []
 
 -- what may stand 6th
 unfoldable pub sixth : List ℕ
 sixth =
     0b11111110 ∷ 0b111110 ∷ 0b1111111110 ∷ 0b1000 ∷ 0b11111110 ∷ 0b100 ∷ 0b110 ∷ 0b110 ∷
-    0b11111110 ∷ 0b110 ∷ 0b110 ∷ 0b100 ∷ 0b10 ∷ 0b10 ∷ 0b10 ∷ 0b1111111100 ∷ []
+    0b11111110 ∷ 0b110 ∷ 0b110 ∷ 0b110 ∷ 0b10 ∷ 0b1111111110 ∷ []
 
 -- what may stand 7th
 unfoldable pub condition : List ℕ
-condition = 1 ∷ 1 ∷ 1 ∷ 1 ∷ 1 ∷ 1 ∷ 1 ∷ 1 ∷ 1 ∷ 1 ∷ 0b10000100 ∷ 0b10000100 ∷ 0b10000100 ∷ 0b100100 ∷ 0b10100 ∷ 0b100 ∷ []
+condition = 1 ∷ 1 ∷ 1 ∷ 1 ∷ 1 ∷ 1 ∷ 1 ∷ 1 ∷ 1 ∷ 1 ∷ 0b11110101 ∷ 0b11110101 ∷ 0b11110101 ∷ 0b11110101 ∷ []
 
 -- three characters stand in a row of the kth line
 abbrev pub inRow : ℕ → ℕ → ℕ → ℕ → Bool
