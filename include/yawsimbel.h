@@ -54,7 +54,7 @@
 extern "C" {
 #endif
 
-#define YWS_VERSION "0.2.0" /* of this header */
+#define YWS_VERSION "0.3.0" /* of this header */
 
 /* ---- Lengths. */
 
@@ -138,7 +138,7 @@ enum {
     YWS_USAGE_MORNING = 7,
     /* Timing at even intervals. */
     YWS_USAGE_START = 10, /* first hour, 0 to 23, or none */
-    /* Timing as needed: the event is a row of JAMISDP01's table 8, which docs/VALUES.md has. */
+    /* Timing as needed: the event is a row of JAMISDP01's table 8 or one that its asterisks stand for; docs/VALUES.md has them. */
     YWS_USAGE_EVENT_GROUP = 11, /* value of the row's 1st character */
     YWS_USAGE_EVENT = 12,       /* of its 2nd */
     YWS_USAGE_CONDITION = 13,   /* of its 3rd */
@@ -226,12 +226,15 @@ enum yws_usage_event_group {
     YWS_USAGE_EVENT_GROUP_OTHER = 32    /* W: when needed, as fitting */
 };
 
+/* Any of these at an event with an asterisk in table 8 (31 32 51 52 71, A1 to A9), YWS_USAGE_CONDITION_MAY alone at every other. */
 enum yws_usage_condition {
     YWS_USAGE_CONDITION_MAY = 0,  /* at the event, if wanted; with any other the drug must be used */
     YWS_USAGE_CONDITION_MUST = 2, /* at the event */
-    /* when something measured is at, below, or at least a number, which the code does not hold: it is written elsewhere, each system in its own way */
+    /* when something measured is at, below, at most or at least a number, which the code does not hold: it is written elsewhere, each system in its
+     * own way */
     YWS_USAGE_CONDITION_EQUAL = 4,
     YWS_USAGE_CONDITION_BELOW = 5,
+    YWS_USAGE_CONDITION_AT_MOST = 6,
     YWS_USAGE_CONDITION_AT_LEAST = 7
 };
 

@@ -98,7 +98,8 @@ impl Event {
     }
 }
 
-/// Under which condition a drug is taken on an event. A number that a condition speaks of stands elsewhere on the sheet.
+/// Under which condition a drug is taken on an event. The events with an asterisk in the table (31, 32, 51, 52, 71 and A1 to A9) stand with any of
+/// them, every other with `May` alone. A number that a condition speaks of is written apart from the code.
 #[derive(Clone, Copy, Debug, Default, PartialEq, Eq, PartialOrd, Ord, Hash)]
 #[non_exhaustive]
 #[repr(u8)]
@@ -112,6 +113,8 @@ pub enum Condition {
     Equal = 4,
     /// It must be taken where a value is below a number.
     Below = 5,
+    /// It must be taken where a value is a number or less.
+    AtMost = 6,
     /// It must be taken where a value is a number or more.
     AtLeast = 7,
 }
@@ -120,6 +123,6 @@ impl Condition {
     /// The condition with this number.
     pub fn of(number: u8) -> Option<Condition> {
         use Condition::*;
-        [May, Must, Equal, Below, AtLeast].into_iter().find(|condition| *condition as u8 == number)
+        [May, Must, Equal, Below, AtMost, AtLeast].into_iter().find(|condition| *condition as u8 == number)
     }
 }

@@ -103,7 +103,7 @@ impl Reason {
             Reason::Character => "the code has a character that may not stand there",
             Reason::Unused => "an unused character of the code is not 0",
             Reason::Count => "the times a day differ from the occasions that the code names",
-            Reason::Rule => "no such event, count or day, an empty week, or 15 h where it may not stand",
+            Reason::Rule => "no such event and condition, count or day, an empty week, or 15 h where it may not stand",
             Reason::Rising => "the hours or days do not rise",
             Reason::IssueMonth => "the issue month is not 1 to 12",
             Reason::DaySet => "no date codes can name this set of days",

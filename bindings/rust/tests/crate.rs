@@ -37,6 +37,11 @@ fn usage_codes() {
     let headache =
         Timing::Event { event: Event::Headache, condition: Condition::May, interval: Some(6), limit: Some(12) };
     assert_eq!("10501206C0000000".parse::<Usage>().unwrap().timing, headache);
+    use Condition::{AtLeast, AtMost, Below, Equal, May, Must};
+    for (digit, condition) in b"024567".iter().zip([May, Must, Equal, Below, AtMost, AtLeast]) {
+        let pressure = Timing::Event { event: Event::HighBloodPressure, condition, interval: None, limit: None };
+        assert_eq!(Usage::read(&code(b"1050310000000000", 6, &[*digit])).unwrap().timing, pressure);
+    }
     let mouth = Usage::try_from(&b"1371N00000000000"[..]).unwrap();
     assert_eq!(mouth, Usage::new(Detail::InMouth, Timing::Count { times: 1, about: About::OrSeveral }));
     let codes = [
@@ -70,8 +75,9 @@ fn usages_that_no_code_has() {
     for timing in [event(Some(0), None), event(Some(7), None), event(None, Some(0)), event(None, Some(11))] {
         none(timing);
     }
-    let condition = Condition::AtLeast;
-    none(Timing::Event { event: Event::Pain, condition, interval: None, limit: None });
+    for (event, condition) in [(Event::Pain, Condition::AtLeast), (Event::Swelling, Condition::Must)] {
+        none(Timing::Event { event, condition, interval: None, limit: None });
+    }
     for about in [About::UpTo(0), About::UpTo(1), About::UpTo(10), About::UpTo(23), About::UpTo(255)] {
         none(Timing::Count { times: 1, about });
     }
@@ -112,8 +118,8 @@ fn every_detail_event_and_count() {
     // The first two characters: 4 oral and 19 external details.
     assert_eq!(taken(all(2).map(|two| code(b"0050110000000000", 0, &two))), 23);
     assert_eq!(Detail::ALL.len(), 23);
-    // Table 8 has 63 rows; nine intervals and twelve limits go with each.
-    assert_eq!(taken(all(3).map(|row| code(b"1050000000000000", 4, &row))), 63);
+    // Table 8: 43 events with one condition, 14 with six; nine intervals and twelve limits go with each.
+    assert_eq!(taken(all(3).map(|row| code(b"1050000000000000", 4, &row))), 43 + 14 * 6);
     assert_eq!(taken(all(2).map(|two| code(b"1050110000000000", 7, &two))), 9 * 12);
     // Kind 7 has thirteen pairs.
     assert_eq!(taken(all(2).map(|pair| code(b"2B70000000000000", 3, &pair))), 13);
