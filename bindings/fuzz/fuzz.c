@@ -37,6 +37,21 @@ static int all_zero(const uint64_t *numbers, size_t count) {
     return 1;
 }
 
+/* The events with an asterisk in table 8: 31 32 51 52 71, A1 to A9. */
+static int starred(uint64_t group, uint64_t event) {
+    if (group == YWS_USAGE_EVENT_GROUP_CIRCULATION || group == YWS_USAGE_EVENT_GROUP_KIDNEY) {
+        return event == 1 || event == 2;
+    }
+    return group == YWS_USAGE_EVENT_GROUP_FEVER ? event == 1 : group == YWS_USAGE_EVENT_GROUP_MEDICAL && event >= 1 && event <= 9;
+}
+
+/* They stand with 0 2 4 5 6 7, every other event with 0; of a code without an event both are 0. */
+static int conditioned(const uint64_t *numbers) {
+    uint64_t condition = numbers[YWS_USAGE_CONDITION];
+    int six = condition == 0 || condition == 2 || (condition >= 4 && condition <= 7);
+    return starred(numbers[YWS_USAGE_EVENT_GROUP], numbers[YWS_USAGE_EVENT]) ? six : condition == 0;
+}
+
 static void codes(const uint8_t *bytes, size_t length) {
     uint64_t numbers[YWS_LEN_USAGE], place;
     memset(numbers, UNTOUCHED, sizeof numbers);
@@ -47,6 +62,7 @@ static void codes(const uint8_t *bytes, size_t length) {
         hold(place == 0 && length == 16, "usage code: taken with a place or a length");
         hold(all_zero(numbers + USAGE_LEFT, YWS_LEN_USAGE - USAGE_LEFT), "usage code: what is left over");
         hold(yws_usage_write(numbers, code) == 0 && memcmp(code, bytes, 16) == 0, "usage code: not written back");
+        hold(conditioned(numbers), "usage code: an event with a condition that it may not have");
         taken++;
     } else {
         hold(all_untouched((uint8_t *) numbers, sizeof numbers), "usage code: refused, yet numbers written");

@@ -97,7 +97,7 @@ fn grown_usage(random: &mut Random) -> Vec<u8> {
             code[4..4 + times].copy_from_slice(&hours);
         }
         b'5' => {
-            let row = [*random.of(b"123456789ABW"), *random.of(b"123456789"), *random.of(b"000022457")];
+            let row = [*random.of(b"123456789ABW"), *random.of(b"123456789"), *random.of(b"000024567")];
             code[4..7].copy_from_slice(&row);
             code[7] = *random.of(b"01234568C");
             code[8] = *random.of(b"0123456789AC");
@@ -108,6 +108,16 @@ fn grown_usage(random: &mut Random) -> Vec<u8> {
         }
     }
     code
+}
+
+/// A usage code that is taken, and its numbers.
+pub fn taken_usage(random: &mut Random) -> (Vec<u8>, model::UsageNumbers) {
+    loop {
+        let code = grown_usage(random);
+        if let Ok(numbers) = model::usage_read(&code) {
+            return (code, numbers);
+        }
+    }
 }
 
 /// The character of a value.
@@ -223,13 +233,34 @@ pub fn usages(random: &mut Random, known: &Known, count: usize, ask: &mut impl F
         ask(Question { asked: b'U', bytes: code });
     }
     for _ in 0..count {
-        let numbers = loop {
-            if let Ok(numbers) = model::usage_read(&grown_usage(random)) {
-                break numbers;
-            }
-        };
+        let (_, numbers) = taken_usage(random);
         ask(Question { asked: b'u', bytes: damaged_numbers(random, numbers) });
     }
+}
+
+/// The rows of table 8: every event of two digits or letters, with each of them and some bytes beside them as its condition, oral and external. Each is
+/// read, and its values are written.
+pub fn event_rows(ask: &mut impl FnMut(Question)) {
+    let characters = b"0123456789ABCDEFGHIJKLMNOPQRSTUVWXYZ";
+    let conditions = [&characters[..], b"/:@[az \0\x80\xb0\xff"].concat();
+    for code in [b"1050110000000000", b"2U50110000000000"] {
+        let numbers = model::usage_read(code).expect("11 is an event");
+        for first in characters {
+            for second in characters {
+                for condition in &conditions {
+                    event_row(*code, numbers, [*first, *second, *condition], ask);
+                }
+            }
+        }
+    }
+}
+
+/// A code and its numbers, with another row of table 8, or none.
+fn event_row(mut code: [u8; 16], mut numbers: model::UsageNumbers, row: [u8; 3], ask: &mut impl FnMut(Question)) {
+    code[4..7].copy_from_slice(&row);
+    numbers[model::EVENT_ROW].copy_from_slice(&row.map(model::value));
+    ask(Question::new(b'U', &code));
+    ask(Question { asked: b'u', bytes: numbers.iter().flat_map(|n| n.to_le_bytes()).collect() });
 }
 
 /// Supplementary codes, the same.
@@ -323,12 +354,13 @@ fn damaged_run(random: &mut Random, run: Vec<u8>) -> Vec<u8> {
                 let letter = *random.of(b"IWDCV");
                 codes[at] = grown_supplement(random, letter);
             }
-            4 => codes[at][1] = *random.of(b"0123456789ABC"),
+            // A run may be cut short, or damaged until nothing of a code is left.
+            4 if codes[at].len() > 1 => codes[at][1] = *random.of(b"0123456789ABC"),
             5 => {
                 let code = codes[at].clone();
                 codes[at] = damaged(random, code);
             }
-            6 => {
+            6 if !codes[at].is_empty() => {
                 let c = *random.of(ALPHABET);
                 let place = random.below(codes[at].len());
                 codes[at][place] = c;

@@ -27,8 +27,9 @@ use random::Random;
 const SHOWN: usize = 5;
 
 /// What is asked about, with its seed and how many are drawn.
-const KINDS: [(&str, u64, usize); 9] = [
+const KINDS: [(&str, u64, usize); 10] = [
     ("usage codes", 101, 200_000),
+    ("event rows", 0, 0),
     ("supplementary codes", 102, 200_000),
     ("runs", 103, 20_000),
     ("sets", 104, 20_000),
@@ -43,6 +44,7 @@ const KINDS: [(&str, u64, usize); 9] = [
 fn expected(kind: &str) -> &'static [u16] {
     match kind {
         "usage codes" => &[0, 1, 2, 3, 4, 5, 6, 7, 8, 9, 35],
+        "event rows" => &[0, 8, 35],
         "supplementary codes" => &[0, 1, 2, 5, 6, 8, 9, 35],
         "runs" => &[0, 1, 2, 5, 6, 8, 9, 10, 12],
         "sets" => &[0, 10, 11, 33],
@@ -53,6 +55,11 @@ fn expected(kind: &str) -> &'static [u16] {
         // 25 is no record's: each has its fields.
         _ => &[0, 23, 24, 26, 27, 28, 29, 30, 31, 32, 33],
     }
+}
+
+/// How many questions of a kind must have been answered with 0, where the papers say it: the 127 rows of table 8, oral and external, read and written.
+fn taken(kind: &str) -> Option<usize> {
+    (kind == "event rows").then_some(4 * 127)
 }
 
 fn main() -> ExitCode {
@@ -130,6 +137,7 @@ fn compare_kind(
         };
         match kind {
             "usage codes" => codes::usages(&mut random, &known, count, &mut ask),
+            "event rows" => codes::event_rows(&mut ask),
             "supplementary codes" => codes::supplements(&mut random, &known, count, &mut ask),
             "runs" => codes::runs(&mut random, &known, count, &mut ask),
             "sets" => codes::sets(&mut random, count, &mut ask),
@@ -153,6 +161,10 @@ fn compare_kind(
     let missed: Vec<_> = expected(kind).iter().filter(|&number| !seen.contains_key(number)).collect();
     if !missed.is_empty() {
         println!("{kind}: no question was answered with {missed:?}");
+        tally.faults += 1;
+    }
+    if let Some(count) = taken(kind).filter(|count| seen.get(&0) != Some(count)) {
+        println!("{kind}: {} questions were answered with 0, not {count}", seen.get(&0).unwrap_or(&0));
         tally.faults += 1;
     }
     let seen: Vec<_> = seen.iter().map(|(n, times)| format!("{n}: {times}")).collect();

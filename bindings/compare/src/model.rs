@@ -27,6 +27,8 @@ pub type SheetRefusal = [u64; 4];
 /// The numbers of a reader's or a writer's state.
 pub type State = [u64; STATE];
 
+/// Where the event and the condition of kind 5 stand among a usage code's numbers.
+pub const EVENT_ROW: Range<usize> = 11..14;
 /// Where the hours of kind 3 stand among a usage code's numbers. Those after them are left over.
 const HOURS: Range<usize> = 17..25;
 /// Where a code stands among its record's numbers.
@@ -39,7 +41,7 @@ pub const STATE_LEFT: Range<usize> = 11..STATE;
 const NO_HOUR: u64 = 24;
 
 /// A character's value: "0 to 9, A 10 to Z 35".
-fn value(c: u8) -> u64 {
+pub fn value(c: u8) -> u64 {
     match c {
         b'0'..=b'9' => u64::from(c - b'0'),
         b'A'..=b'Z' => u64::from(c - b'A') + 10,

@@ -1,7 +1,7 @@
 //! Questions about sheets: issued on all kinds of dates, drawn whole, damaged, and records put one by one.
 
 use crate::answer::Question;
-use crate::codes::grown_supplement;
+use crate::codes::{grown_supplement, taken_usage};
 use crate::model;
 use crate::random::Random;
 
@@ -203,22 +203,6 @@ fn amount(random: &mut Random) -> Vec<u8> {
     text.into_bytes()
 }
 
-fn usage(random: &mut Random) -> Vec<u8> {
-    let some: &[&[u8]] = &[
-        b"1013044400000000",
-        b"131514440P000000",
-        b"1033IMS000000000",
-        b"1023A00000000000",
-        b"1050527000000000",
-        b"10505226C0000000",
-        b"1371N00000000000",
-        b"2A65099A9X000000",
-        b"2U50A14000000000",
-        b"2K74A00000000000",
-    ];
-    random.of(some).to_vec()
-}
-
 /// The kind 8 codes of one RP.
 fn schedule(random: &mut Random, issue: u8) -> Vec<Vec<u8>> {
     match random.below(6) {
@@ -283,7 +267,7 @@ fn grow_rp(random: &mut Random, rp: usize, issue: u8, lines: &mut Vec<Line>) {
         lines.push(kept(random, 102));
     }
     let coded = random.below(4) > 0;
-    let code = if coded { usage(random) } else { Vec::new() };
+    let code = if coded { taken_usage(random).0 } else { Vec::new() };
     let kind = decimal(1 + usize::from(coded));
     let name = text(random, 80);
     lines.push(line(111, &[decimal(rp), kind, code, name, optional(random, 99)]));
@@ -359,7 +343,13 @@ fn damage_lines(random: &mut Random, lines: &mut Vec<Line>) {
         2 => lines.swap(at, other),
         3 => lines[at][0] = random.of(NUMBERS).to_vec(),
         4 => lines[at].push(random.of(TRICKY).to_vec()),
-        5 => drop(lines[at].pop()),
+        5 => {
+            // An empty line has one field, an empty one: every line has a first.
+            lines[at].pop();
+            if lines[at].is_empty() {
+                lines[at].push(Vec::new());
+            }
+        }
         6 => {
             let number = random.of(NUMBERS).to_vec();
             let filling = text(random, 20);
@@ -422,7 +412,7 @@ fn filled(random: &mut Random, mut lines: Vec<Line>) -> Vec<u8> {
     };
     lines.retain(|line| line[0] != b"81" && line[0] != b"82");
     let mut place = place.min(lines.len());
-    while lines[place - 1][0] != b"51" && place > 1 && lines[place - 1][0] != b"63" {
+    while place > 1 && lines[place - 1][0] != b"51" && lines[place - 1][0] != b"63" {
         place -= 1;
     }
     let mut left = aim.saturating_sub(joined(&lines).len());

@@ -1,4 +1,4 @@
-//! Usage codes: sixteen characters that say how and when a drug is taken.
+//! Usage codes: sixteen characters that say how and when a drug is taken. Table 8's rows are those of document 02.
 
 use crate::{zeros_from, Refusal};
 
@@ -322,26 +322,30 @@ fn read_event(code: &Code) -> Result<Timing, Refusal> {
     Ok(Timing::Event(Event { event: [first, second], condition, interval, limit }))
 }
 
-/// The 63 rows of table 8: the event, then its condition.
-fn is_event_row(row: [u8; 3]) -> bool {
-    match row[2] {
-        b'0' => matches!(
-            &row[..2],
-            [b'1', b'1'..=b'7']
-                | [b'2', b'1'..=b'5']
-                | [b'4', b'1'..=b'9']
-                | b"53"
-                | [b'6', b'1'..=b'7']
-                | b"72"
-                | [b'8' | b'9' | b'W', b'1' | b'2']
-                | [b'B', b'1'..=b'7']
-        ),
-        b'2' => matches!(&row[..2], b"31" | b"32" | b"51" | b"52" | b"71" | [b'A', b'1'..=b'9']),
-        b'4' => row.starts_with(b"A1"),
-        b'5' => row.starts_with(b"51"),
-        b'7' => matches!(&row[..2], b"31" | b"32" | b"52" | b"71"),
-        _ => false,
-    }
+/// The 127 rows of table 8: "43 with condition 0, 14 with six each".
+fn is_event_row([first, second, condition]: [u8; 3]) -> bool {
+    let event = [first, second];
+    (is_unstarred(event) && condition == b'0') || (is_starred(event) && b"024567".contains(&condition))
+}
+
+/// "The starred ones are 31, 32, 51, 52, 71 and A1 to A9." They "take any of the conditions 0, 2, 4, 5, 6, 7".
+fn is_starred(event: [u8; 2]) -> bool {
+    matches!(&event, b"31" | b"32" | b"51" | b"52" | b"71" | [b'A', b'1'..=b'9'])
+}
+
+/// "11 to 17, 21 to 25, 41 to 49, 53, 61 to 67, 72, 81, 82, 91, 92, B1 to B7, W1, W2 with condition 0."
+fn is_unstarred(event: [u8; 2]) -> bool {
+    matches!(
+        &event,
+        [b'1', b'1'..=b'7']
+            | [b'2', b'1'..=b'5']
+            | [b'4', b'1'..=b'9']
+            | b"53"
+            | [b'6', b'1'..=b'7']
+            | b"72"
+            | [b'8' | b'9' | b'W', b'1' | b'2']
+            | [b'B', b'1'..=b'7']
+    )
 }
 
 /// "4th is 1 to 5; 5th 0 or 1; 6th and 8th 0, 9 or A; 7th and 9th 0 or 9; 10th 0 or A to X."
@@ -488,7 +492,8 @@ mod tests {
         let hours = read(b"1033IMS000000000").unwrap().timing;
         assert_eq!(hours, Timing::Hours(Hours(1 << 8 | 1 << 12 | 1 << 18)));
         assert_eq!(refused("1033IMM000000000"), (9, 7));
-        assert_eq!(refused("1050310000000000"), (8, 5));
+        let pressure = Event { event: *b"31", condition: b'0', interval: b'0', limit: b'0' };
+        assert_eq!(read(b"1050310000000000").unwrap().timing, Timing::Event(pressure));
         assert_eq!(refused("2B72100000000000"), (8, 4));
     }
 
@@ -498,6 +503,8 @@ mod tests {
         assert_eq!(refused("1033IM0000000000"), (5, 7));
         assert_eq!(refused("1032IMS000000000"), (6, 7));
         assert_eq!(refused("105011X000000000"), (8, 5));
+        assert_eq!(refused("10503107X0000000"), (5, 8));
+        assert_eq!(refused("10503137X0000000"), (8, 5));
         assert_eq!(refused("2B71X00000000000"), (8, 4));
         assert_eq!(refused("1071000000000000"), (4, 3));
         assert_eq!(refused("101300040P000000"), (7, 4));
@@ -507,10 +514,60 @@ mod tests {
         assert_eq!(refused("3"), (1, 0));
     }
 
+    const STARRED: &str = "31 32 51 52 71 A1 A2 A3 A4 A5 A6 A7 A8 A9";
+    const UNSTARRED: &str = "11 12 13 14 15 16 17 21 22 23 24 25 41 42 43 44 45 46 47 48 49 53 \
+                             61 62 63 64 65 66 67 72 81 82 91 92 B1 B2 B3 B4 B5 B6 B7 W1 W2";
+
+    /// The conditions, of all bytes, with which an event is taken, each as it stands; with any other it is 8 at 5.
+    fn conditions(event: [u8; 2]) -> Vec<u8> {
+        let taken = |&condition: &u8| {
+            let mut code = *b"1050000000000000";
+            code[4..6].copy_from_slice(&event);
+            code[6] = condition;
+            let said = Timing::Event(Event { event, condition, interval: b'0', limit: b'0' });
+            let answer = read(&code).map(|instruction| instruction.timing);
+            assert!(answer == Ok(said) || answer == Err(Refusal::new(8, 5)), "{code:?}: {answer:?}");
+            answer.is_ok()
+        };
+        (0..=255).filter(taken).collect()
+    }
+
     #[test]
-    fn table_8_has_63_rows() {
-        let all = (0..=255u8).flat_map(|a| (0..=255u8).flat_map(move |b| (0..=255u8).map(move |c| [a, b, c])));
-        assert_eq!(all.filter(|&row| is_event_row(row)).count(), 63);
+    fn starred_events_take_six_conditions_the_others_one() {
+        for (events, some) in [(STARRED, "024567"), (UNSTARRED, "0")] {
+            for event in events.split(' ') {
+                assert_eq!(conditions(event.as_bytes().try_into().unwrap()), some.as_bytes(), "{event}");
+            }
+        }
+    }
+
+    /// Of all texts of three bytes.
+    #[test]
+    fn table_8_has_127_rows() {
+        let all = (0..=255).flat_map(|first| (0..=255).map(move |second| [first, second]));
+        let taken: Vec<_> = all.map(conditions).filter(|some| !some.is_empty()).collect();
+        let events_with = |some: &[u8]| taken.iter().filter(|has| *has == some).count();
+        assert_eq!((events_with(b"0"), events_with(b"024567")), (43, 14));
+        assert_eq!(taken.concat().len(), 127);
+    }
+
+    /// "Refusals: 8 at 5 as before."
+    #[test]
+    fn rows_that_table_8_has_not() {
+        let starred = STARRED.split(' ').flat_map(|event| ["1", "3", "8", "9", "A"].map(|c| format!("{event}{c}")));
+        let others = ["531", "532", "537", "722", "727", "912", "112", "B74", "W16", "300", "330", "A00", "AA0"];
+        for row in starred.chain(others.map(String::from)) {
+            assert_eq!(refused(&format!("1050{row}000000000")), (8, 5), "{row}");
+        }
+    }
+
+    /// Document 01's rows from before the starred events took six conditions.
+    #[test]
+    fn former_63_rows_are_still_taken() {
+        let starred = "312 317 322 327 512 515 522 527 712 717 A12 A14 A22 A32 A42 A52 A62 A72 A82 A92";
+        let others = UNSTARRED.split(' ').map(|event| format!("{event}0"));
+        let codes = others.chain(starred.split(' ').map(String::from)).map(|row| format!("1050{row}000000000"));
+        assert_eq!(codes.filter(|code| read(code.as_bytes()).is_ok()).count(), 63);
     }
 
     /// Every kind 1 ending that is taken is written back as it stood; there are 1,372.
