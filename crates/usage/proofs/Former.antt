@@ -14,12 +14,11 @@ use Rattle.cells.specs.Text.{among}
 use Rattle.cells.specs.Test.{test, first, Answer, took, refused, judge}
 use Rattle.cells.specs.Cells.{char, set, cells}
 use Rattle.cells.proofs.Split.{split}
-use Rattle.cells.proofs.Alike.{and-left, and-right, alike, each}
+use Rattle.cells.proofs.Alike.{and-left, and-right, and-parts, alike, each}
 use Rattle.cells.proofs.Back.{passed, taken, in-sets}
 use Rattle.usage.specs.Usage.{Rows, rows, table8, inTable, limitCells, frame, timing, says, readUsage}
 use Rattle.usage.specs.declared.Instruction.{Instruction}
 use Rattle.usage.proofs.Masks.{bit}
-use Rattle.usage.proofs.Table.{inLine}
 use Rattle.usage.proofs.Laws.{listed, member, distinct}
 
 -- "The 63 rows: 11 to 17, 21 to 25, 41 to 49, 53, 61 to 67, 72, 81, 82, 91, 92, B1 to B7, W1, W2 with condition 0;
@@ -72,57 +71,46 @@ pub by-its-table : (s : List ℕ) → readBy table8 s ≡ readUsage s
 unfolding readUsage timing
 by-its-table s = split (among "5" (char s 3)) (λ e. let k = only-five (char s 3) e in simp (e, k .0, k .1, k .2)) (λ e. simp e)
 
--- a set within another; a line inside another; each line of a table inside one of another table's
-abbrev within : String → String → Bool
-within x y = alike (λ c. cond (among y c) 1 0) (λ c. 1) x
+-- each character of a set passes a test
+abbrev all : (ℕ → Bool) → String → Bool
+all f x = alike (λ c. cond (f c) 1 0) (λ c. 1) x
 
-abbrev inside : Rows → Rows → Bool
-inside r t = within (r .fifth) (t .fifth) && (within (r .sixth) (t .sixth) && within (r .condition) (t .condition))
+one : (f : ℕ → Bool) (x : String) → all f x ≡ true → (c : ℕ) → among x c ≡ true → f c ≡ true
+one f x t c h = bit _ (eq-eqb _ _ (each (λ c. cond (f c) 1 0) (λ c. 1) x t c h))
 
-abbrev held : Rows → List Rows → Bool
-held r [] = false
-held r (t ∷ ts) = cond (inside r t) true (held r ts)
+-- each row of a line, and of a table, is a row: those with a 5th and a 6th, those with a 5th, all
+abbrev keptAt : ℕ → ℕ → Rows → Bool
+keptAt a b r = all (inTable table8 a b) (r .condition)
 
-abbrev covers : List Rows → List Rows → Bool
-covers [] ts = true
-covers (r ∷ rs) ts = held r ts && covers rs ts
+abbrev keptFrom : ℕ → Rows → Bool
+keptFrom a r = all (λ b. keptAt a b r) (r .sixth)
 
-among-within : (x y : String) → within x y ≡ true → (c : ℕ) → among x c ≡ true → among y c ≡ true
-among-within x y t c h = bit _ (eq-eqb _ _ (each (λ c. cond (among y c) 1 0) (λ c. 1) x t c h))
+abbrev keptLine : Rows → Bool
+keptLine r = all (λ a. keptFrom a r) (r .fifth)
+
+abbrev kept : List Rows → Bool
+kept [] = true
+kept (r ∷ rs) = keptLine r && kept rs
 
 module _ (a b c : ℕ) where
-  line-inside : (r t : Rows) → inside r t ≡ true → inLine r a b c ≡ true → inLine t a b c ≡ true
-  line-inside r t w h =
-      let w2 = and-right (within (r .fifth) (t .fifth)) _ w in
-      let h2 = and-right (among (r .fifth) a) _ h in
-      let p : among (t .fifth) a ≡ true = among-within (r .fifth) (t .fifth) (and-left _ _ w) a (and-left _ _ h) in
-      let q : among (t .sixth) b ≡ true = among-within (r .sixth) (t .sixth) (and-left _ _ w2) b (and-left _ _ h2) in
-      let u : among (t .condition) c ≡ true =
-      among-within (r .condition) (t .condition) (and-right (within (r .sixth) (t .sixth)) _ w2) c (and-right (among (r .sixth) b) _ h2) in
-      simp (p, q, u)
-
-  line-held : (r : Rows) (ts : List Rows) → held r ts ≡ true → inLine r a b c ≡ true → inTable ts a b c ≡ true
+  kept-row : (rs : List Rows) → kept rs ≡ true → inTable rs a b c ≡ true → inTable table8 a b c ≡ true
   unfolding inTable
-  line-held r [] w h = absurd (let z : _≡_ {A = ℕ} 0 1 = cc in omega arith)
-  line-held r (t ∷ ts) w h = go (line-held r ts)
+  kept-row [] k h = absurd (let z : _≡_ {A = ℕ} 0 1 = cc in omega arith)
+  kept-row (r ∷ rs) k h = go (kept-row rs (and-right (keptLine r) _ k))
     where
-      go : (held r ts ≡ true → inLine r a b c ≡ true → inTable ts a b c ≡ true) → inTable (t ∷ ts) a b c ≡ true
+      go : (inTable rs a b c ≡ true → inTable table8 a b c ≡ true) → inTable table8 a b c ≡ true
       go f =
-          split (inLine t a b c) (λ e. simp e)
-          (λ e. split (inside r t) (λ w. absurd (let z = line-inside r t w h in let y : _≡_ {A = ℕ} 0 1 = cc in omega arith)) (λ n. simp e (f (simp n at w) h)))
-
-  covered : (rs ts : List Rows) → covers rs ts ≡ true → inTable rs a b c ≡ true → inTable ts a b c ≡ true
-  unfolding inTable
-  covered [] ts w h = absurd (let z : _≡_ {A = ℕ} 0 1 = cc in omega arith)
-  covered (r ∷ rs) ts w h = go (covered rs ts (and-right (held r ts) _ w))
-    where
-      go : (inTable rs a b c ≡ true → inTable ts a b c ≡ true) → inTable ts a b c ≡ true
-      go f = split (inLine r a b c) (λ e. line-held r ts (and-left (held r ts) _ w) e) (λ e. f (simp e at h))
+          split (among (r .fifth) a && (among (r .sixth) b && among (r .condition) c))
+          (λ e. let p = and-parts (among (r .fifth) a) _ e in
+          let q = and-parts (among (r .sixth) b) _ (p .1) in
+          let from = one (λ a. keptFrom a r) (r .fifth) (and-left (keptLine r) _ k) a (p .0) in
+          one (inTable table8 a b) (r .condition) (one (λ b. keptAt a b r) (r .sixth) from b (q .0)) c (q .1))
+          (λ e. f (simp e at h))
 
   -- every row of the 63 is a row
   pub still-a-row : inTable sixtyThree a b c ≡ true → inTable table8 a b c ≡ true
-  unfolding among
-  still-a-row = covered sixtyThree table8 refl
+  unfolding inTable among
+  still-a-row = kept-row sixtyThree refl
 
 -- the code is of kind 5, with one of the rows that came
 abbrev pub came : List ℕ → Bool

@@ -23,7 +23,7 @@ same (r ∷ rs) k =
     equal (getD masks.fifth k 0) (r .fifth) && (equal (getD masks.sixth k 0) (r .sixth) && (equal (getD masks.condition k 0) (r .condition) && same rs (k + 1)))
 
 -- three characters stand in a row
-abbrev pub inLine : Rows → ℕ → ℕ → ℕ → Bool
+abbrev inLine : Rows → ℕ → ℕ → ℕ → Bool
 inLine r a b c = among (r .fifth) a && (among (r .sixth) b && among (r .condition) c)
 
 abbrev row : ℕ → Rows
