@@ -89,14 +89,14 @@ impl Date {
 }
 
 // Every fourth year, but of full centuries only every fourth.
-fn leap(year: u16) -> bool
+pub fn leap(year: u16) -> bool
     ensures { λ r. ⌜ r ≡ leapOf year ⌝ }
 {
     (year % 4 == 0) & ((year % 100 != 0) | (year % 400 == 0))
 }
 
 // The last day of a month; 0 where there is no such month.
-fn last_day(year: u16, month: u8) -> u8
+pub fn last_day(year: u16, month: u8) -> u8
     ensures { λ r. ⌜ r ≡ lastDay year month ⌝ }
 {
     if (month == 2) & leap(year) {
@@ -108,7 +108,8 @@ fn last_day(year: u16, month: u8) -> u8
     0
 }
 
-fn exists(year: u16, month: u8, day: u8) -> bool
+// Is there such a day?
+pub fn exists(year: u16, month: u8, day: u8) -> bool
     ensures { λ r. ⌜ r ≡ existsOf year month day ⌝ }
 {
     let last = last_day(year, month);

@@ -1,6 +1,7 @@
 -- The table is the list, and past its end is 0.
 -- Assumes nothing.
 use Prim.Native.Nat.{_≤_}
+use mathlib.Core.Path.{refl}
 use borrow.Author.Needs.{needs}
 use lib.ListN.{List·getD-eq-default}
 use Rattle.date.specs.Date.{lastDay}
@@ -12,14 +13,14 @@ leap-requires c κs = search needs
 
 returns : tie.Need-returns
 unfolding lastDay
-returns c = rw (← c .before .leap .ensures, c .if1 .taken)
+returns c = rw (← c .before .leap .ensures, c .if1 .taken) refl
 
 array-read-result : tie.Need-array-read-result
 array-read-result c = search needs
 
 returns-2 : tie.Need-returns-2
 unfolding lastDay
-returns-2 c = rw (← c .before .before .leap .ensures, c .before .if1 .left)
+returns-2 c = rw (← c .before .before .leap .ensures, c .before .if1 .left) refl
 
 returns-3 : tie.Need-returns-3
 unfolding lastDay

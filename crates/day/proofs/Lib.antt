@@ -1,0 +1,4 @@
+pub mod Months
+pub mod Years
+pub mod Cases
+pub mod Laws
