@@ -3,3 +3,4 @@ pub mod Table
 pub mod Faults
 pub mod Laws
 pub mod Former
+pub mod Times

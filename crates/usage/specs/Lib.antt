@@ -1,2 +1,3 @@
 pub mod Usage
+pub mod Times
 pub mod Code
