@@ -1,0 +1,5 @@
+pub mod Kept
+pub mod Filling
+pub mod Refusals
+pub mod Laws
+pub mod Worked

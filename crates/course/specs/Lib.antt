@@ -1,0 +1,4 @@
+pub mod Plan
+pub mod Calendar
+pub mod Kept
+pub mod Code
