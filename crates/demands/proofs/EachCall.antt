@@ -7,6 +7,7 @@ use Rattle.demands.proofs.Runs.{run-exactly}
 use Rattle.demands.proofs.Made as dates
 use Rattle.demands.proofs.Refusals.{call-refused}
 use Rattle.demands.proofs.Exactly.{file-exactly}
+use Rattle.demands.proofs.Calendar.{calendar-exactly}
 
 -- Writing has one answer.
 pub answered : Answered
@@ -25,6 +26,7 @@ number-and-place =
       era = dates.era;
       date = dates.unnamed;
       dateRead = dates.read;
+      calendar = calendar-exactly;
       usageWritten = λ i w k z. let r = k .refuses z in (r .0, r .2);
       supplementWritten = λ x w k z. let r = k .refuses z in (r .0, r .2);
     }

@@ -10,6 +10,7 @@ use lib.ListN.{length}
 use Rattle.cells.specs.Test.{took, refused}
 use Rattle.days_writer.specs.Set.{said, WritesSet}
 use Rattle.days_writer.specs.declared.Wrote.{Wrote}
+use Rattle.day.specs.declared.Day.{Day}
 use Rattle.record.specs.declared.Record.{Record}
 use Rattle.record.specs.declared.Refusal.{Refusal}
 use Rattle.reader.specs.File.{readFile}
@@ -17,6 +18,8 @@ use Rattle.reader.specs.Reader.{openFile, nextRecord, call, endingOf, answerAt}
 use Rattle.reader.specs.declared.State.{State}
 use Rattle.reader.specs.Said.{Hands, Refuses, End}
 use Rattle.reader.proofs.Laws as reader
+use Rattle.course.specs.Calendar.{Doses, Not, answers}
+use Rattle.dose_calendar.specs.Calendar.{calendarOf}
 use Rattle.demands.specs.EachCall.{Answered, NumberAndPlace}
 use Rattle.demands.specs.Numbers.{SetNumber}
 use Rattle.demands.specs.Refused.{FileRefusal}
@@ -25,11 +28,12 @@ use Rattle.demands.proofs.EachCall as eachCall
 use Rattle.demands.proofs.Exactly as exactly
 use Rattle.demands.proofs.Runs as runs
 use Rattle.demands.proofs.Calls as calls
+use Rattle.demands.proofs.Calendar as calendar
 use Rattle.demands.proofs.Writing as writing
 
 -- ---- "Every file, code and record handed over gets an answer"
 -- Reading a file, a code or a run, and each call of the reader and the writer, answer by a total function: `readFile`, `readUsage`, `readSupplement`,
--- `readRun`, `nextRecord`, `answer`. Writing a code and writing a set of days answer by a promise: one answer meets it, and no other.
+-- `readRun`, `nextRecord`, `calendarOf`, `answer`. Writing a code and writing a set of days answer by a promise: one answer meets it, and no other.
 pub answered : Answered
 answered = eachCall.answered
 
@@ -59,7 +63,7 @@ pub ends-again : (s : List ℕ) (t : State) → nextRecord s t .next ≡ End →
 ends-again = reader.ever-ended
 
 -- ---- "A refusal is one of document 01's numbers, with its place"
--- Call by call: reading a code, a run, a file; making and reading a date; writing a code.
+-- Call by call: reading a code, a run, a file; making and reading a date; telling a dose calendar; writing a code.
 pub number-and-place : NumberAndPlace
 number-and-place = eachCall.number-and-place
 
@@ -77,6 +81,11 @@ set-refused = runs.set-refused
 pub refused-leaves : (out : List ℕ) (k : Call) → (answer out k .put .number ≡ 0 → ⊥) → Refusing out (handed k) (answer out k)
 refused-leaves out k = writing.answers out k .refused
 
+-- A dose calendar that is refused: the output is as it was.
+pub calendar-refused : (s : List ℕ) (rp : ℕ) (start : Day) (n : ℕ) (out : List ℕ) (f : Refusal) → calendarOf s rp start n (length out) ≡ Not f →
+    answers (calendarOf s rp start n (length out)) out .output ≡ out
+calendar-refused = calendar.calendar-refused
+
 -- ---- "An answer that writes changes only the bytes it says it wrote."
 -- A set of days: the eight bytes of each code that it tells.
 pub set-written : (issue : ℕ) (cells before after : List ℕ) (w : Wrote) → WritesSet issue cells before after w → (n : ℕ) → said w ≡ took n →
@@ -87,3 +96,8 @@ set-written = runs.set-written
 pub only-what-it-wrote : (out : List ℕ) (k : Call) → answer out k .put .number ≡ 0 →
     OnlyBetween (handed k .at) (answer out k .put .state .at) out (answer out k .buffer)
 only-what-it-wrote out k = writing.answers out k .wrote
+
+-- A dose calendar: a place for each day.
+pub calendar-filled : (s : List ℕ) (rp : ℕ) (start : Day) (n : ℕ) (out ds : List ℕ) → calendarOf s rp start n (length out) ≡ Doses ds →
+    OnlyBetween 0 n out (answers (calendarOf s rp start n (length out)) out .output)
+calendar-filled = calendar.calendar-filled

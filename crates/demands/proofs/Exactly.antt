@@ -214,7 +214,8 @@ module _ (s : List ℕ) where
   of-fault f rs z (refused.FileRefusal.line o h w) = absurd (z (no-fault o))
   of-fault f rs z (refused.FileRefusal.end o h p w) = absurd (z (no-fault o))
 
-  file-told : (f : Refusal) → FileRefusal s (readFile s .records) f → readFile s .ending ≡ stopped f
+  -- A file that is refused so ends so.
+  pub file-told : (f : Refusal) → FileRefusal s (readFile s .records) f → readFile s .ending ≡ stopped f
   unfolding readFile start lastOf
   file-told f w =
       cases (eqb (fileFault s .number) 0)

@@ -11,6 +11,7 @@ pub mod Calls
 pub mod Refusals
 pub mod Refused
 pub mod Exactly
+pub mod Calendar
 pub mod EachCall
 pub mod Writing
 -- demand 2,

@@ -19,14 +19,18 @@ use Rattle.days.specs.Run.{stopped, refuses, readRun}
 use Rattle.days_writer.specs.Set.{WritesSet}
 use Rattle.days_writer.specs.declared.Wrote.{Wrote}
 use Rattle.date.specs.Date.{readDate, makeWestern, makeEra, makeDate}
+use Rattle.day.specs.declared.Day.{Day}
 use Rattle.record.specs.declared.Refusal.{Refusal}
 use Rattle.reader.specs.File.{readFile}
 use Rattle.reader.specs.Reader.{openFile, nextRecord, call}
 use Rattle.reader.specs.declared.State.{State}
 use Rattle.reader.specs.Said.{Refuses}
+use Rattle.course.specs.Calendar.{Not}
+use Rattle.dose_calendar.specs.Calendar.{calendarOf}
 use Rattle.demands.specs.One.{One}
 use Rattle.demands.specs.Numbers.{UsageNumber, SupplementNumber, RunNumber, DateNumber, DateTextNumber, LineRefusal}
 use Rattle.demands.specs.Refused.{FileRefusal}
+use Rattle.demands.specs.Calendar.{CalendarRefusal}
 
 -- "Every file, code and record handed over gets an answer": writing a code or a set of days has one answer that meets its promise, and no other.
 pub record Answered : Type 0 where
@@ -58,6 +62,9 @@ pub record NumberAndPlace : Type 0 where
   pub date : (y m d n p : ℕ) → (makeDate y m d ≡ refused n p) ↔ DateNumber y m d n p
   -- reading one: exactly where no date is written so;
   pub dateRead : (s : List ℕ) (n p : ℕ) → (readDate s ≡ refused n p) ↔ DateTextNumber s n p
+  -- telling a dose calendar: exactly where the file, the RP, the days, the doses or the room ask for it;
+  pub calendar : (s : List ℕ) (rp : ℕ) (start : Day) (n room : ℕ) (f : Refusal) →
+      (calendarOf s rp start n room ≡ Not f) ↔ CalendarRefusal s rp start n room f
   -- writing a usage code: "35 code record that no code reads as",
   pub usageWritten : (i : Instruction) (w : WrittenUsage) → WritesUsage i w → (w .number ≡ 0 → ⊥) →
       (w .number ≡ 35) × ((s : List ℕ) → readUsage s ≡ took i → ⊥)
