@@ -1,4 +1,4 @@
-/* Yawsimbel: Japanese prescription files, and the usage and supplementary codes in them, read and written.
+/* Yawsimbel: Japanese prescription files, and the usage and supplementary codes in them, read and written; and the doses that they give a day.
  *
  * Link with libyawsimbel.a and, for the words at the end of this file, messages/yawsimbel_messages.c. No function allocates, keeps a pointer after it
  * returns, or touches anything but what it is lent; none has a state of its own, so any number of threads may call at once on memory of their own.
@@ -21,8 +21,8 @@
  * (`place`, `refusal`, `own`), which is written by every call, with 0s where there is nothing to say; and except for the `reader` of
  * yws_sheet_open, which keeps the refusal so that yws_sheet_next says it again.
  *
- * NUMBERS HANDED IN may be anything; none is undefined behaviour. One that is too large for what it stands for makes a record or a code
- * that is refused.
+ * NUMBERS HANDED IN may be anything; none is undefined behaviour. One that is too large for what it stands for makes a record, a code or a
+ * calendar that is refused.
  *
  * NUMBERS LEFT OVER in a usage code, a record or a state are room for what is still to come: 0 where a function writes them, not looked at where
  * they are handed in.
@@ -54,7 +54,7 @@
 extern "C" {
 #endif
 
-#define YWS_VERSION "0.3.0" /* of this header */
+#define YWS_VERSION "0.4.0" /* of this header */
 
 /* ---- Lengths. */
 
@@ -73,7 +73,8 @@ enum {
     YWS_LEN_REFUSAL = 4,         /* numbers of a sheet's refusal */
     YWS_LEN_RUN_REFUSAL = 2,     /* numbers of a run's refusal */
     YWS_MOST_FILE = 16384,       /* bytes of the longest file */
-    YWS_MOST_RUN = 536           /* bytes of the longest run, 67 codes of 8 */
+    YWS_MOST_RUN = 536,          /* bytes of the longest run, 67 codes of 8 */
+    YWS_MOST_DAYS = 366          /* days of the longest dose calendar, a byte each */
 };
 
 /* ---- What a function returns. */
@@ -111,6 +112,10 @@ enum yws_result {
     YWS_ERR_ROOM = 33,    /* no room */
     YWS_ERR_RECORD = 34,  /* record that the reader would refuse here; its number follows */
     YWS_ERR_NO_CODE = 35, /* numbers that no code reads as */
+    /* The dose calendar. */
+    YWS_ERR_DOSES = 50,    /* the RP fixes no doses for its days: a C code, no usage code, as needed, or a count that is about so many or a range */
+    YWS_ERR_CALENDAR = 51, /* days not 1 to 366; start no day from 1868 to 2099, or before the issue date */
+    YWS_ERR_NO_RP = 53,    /* no such RP in the file */
     /* yws_sheet_next: no record is left. */
     YWS_END = 65535
 };
@@ -550,6 +555,43 @@ uint16_t yws_sheet_open(const uint8_t *file, uint64_t length, struct yws_reader 
  * at an offset outside the file there is no record (YWS_ERR_UNKNOWN). */
 uint16_t yws_sheet_next(const uint8_t *file, uint64_t length, struct yws_reader *reader, uint64_t record[YWS_LEN_RECORD],
                         uint64_t refusal[YWS_LEN_REFUSAL]);
+
+/* ---- The dose calendar, for a machine that packs the doses of an RP day by day.
+ *
+ * Each byte of `doses` is a day, and says how many doses of the RP the patient takes on it: 0 for a day without one, else the times a day of the RP's
+ * usage code, 1 to 8, the same on every day that has any. doses[0] is the start date itself, doses[1] the day after it, and so on, over ends of
+ * months and leap days and past the end of 2099 as the Gregorian calendar goes.
+ *
+ * Which days have doses, the supplementary codes in the RP's 181s of YWS_EXTRA_KIND_CODE say. Nothing else has a part in it: not the times that the 111
+ * has beside its code (YWS_DIRECTIONS_TIMES); not the RP's quantity (for how many days to pack is for the caller to ask); no 181 in words, so that
+ * YWS_EXTRA_KIND_ALTERNATE alone is every day; and nothing of a single drug: its amount (201), unequal doses (221) and a code of its own (281) are not
+ * looked at.
+ *
+ *     no code                  every day
+ *     I, days on and off       on and off by turns, from the start date on, which is the first day on: so start with the patient's first day, and ask
+ *                              for more days from the same start, since a later one begins a turn of its own
+ *     W, weekdays              every such weekday
+ *     D, days of every month   every such day; in a month that is too short for it, none
+ *     D, days of named months  those days, in the twelve months that begin with the month of issue (record 51) alone: later ones are without a dose
+ *     C, so often in a time    on no day that can be told: YWS_ERR_DOSES
+ */
+
+/* Writes the calendar of the RP whose number is `rp` for `days` days, 1 to YWS_MOST_DAYS, from a start date on (the western year, month and day). It
+ * reads all of the file itself, so no other call need come before. Taken: YWS_OK, `refusal` 0s, and doses[0] to doses[days - 1] written; the rest of
+ * the `room` bytes stays. Refused: all of `doses` stays, and what is returned is the first of these that holds:
+ *
+ *     20 to 32          the file is refused. The number and `refusal` are those of yws_sheet_check: treat it as there
+ *     YWS_ERR_NO_RP     the file has no 101 with this RP number: ask for one of record[YWS_RP_NUMBER]
+ *     YWS_ERR_CALENDAR  `days` is 0 or more than YWS_MOST_DAYS, the start is no day from 1868-01-01 to 2099-12-31, or it is before the issue date
+ *                       (record 51): ask for other days
+ *     YWS_ERR_DOSES     the sheet does not say on which days, or how often a day: a C code; no usage code (YWS_DIRECTIONS_KIND_WORDS);
+ *                       YWS_USAGE_TIMING_AS_NEEDED; YWS_USAGE_ABOUT other than YWS_USAGE_ABOUT_EXACT. It is so for any days: do not ask again, but
+ *                       leave this RP to the pharmacist
+ *     YWS_ERR_ROOM      `room` is less than `days`. YWS_MOST_DAYS bytes are always enough
+ *
+ * `refusal` is 0s but for the file's own refusal. */
+uint16_t yws_calendar(const uint8_t *file, uint64_t length, uint32_t rp, uint32_t year, uint32_t month, uint32_t day, uint32_t days, uint8_t *doses,
+                      uint64_t room, uint64_t refusal[YWS_LEN_REFUSAL]);
 
 /* ---- Sheets, written.
  *

@@ -43,6 +43,11 @@ static const struct line lines[] = {
     {YWS_ERR_ROOM, "the buffer has no room", "バッファの空きが足りません"},
     {YWS_ERR_RECORD, "the record would be refused when it is read", "このレコードは読み取り時に拒否されます"},
     {YWS_ERR_NO_CODE, "no code reads as these numbers", "この数値の組に当たるコードはありません"},
+    {YWS_ERR_DOSES, "the RP fixes no doses for its days: no usage code, as needed, about so often or a range, or so often in a period",
+     "RPの内容から日ごとの回数が決まりません（用法コードなし、頓用、回数が程度・範囲、期間内回数指定）"},
+    {YWS_ERR_CALENDAR, "the days are not 1 to 366, or the start is no day from 1868 to 2099 or is before the issue date",
+     "日数が1から366までではないか、開始日が1868年から2099年までの日付でないか、交付日より前です"},
+    {YWS_ERR_NO_RP, "the sheet has no RP of this number", "処方箋にこの番号のRPがありません"},
     {YWS_END, "no record is left", "レコードはこれで終わりです"},
 };
 

@@ -454,6 +454,52 @@ static void lengths(void) {
     IS(yws_set_write(1, every_day, lent.bytes, YWS_MOST_RUN - 1, &one), YWS_ERR_ROOM);
 }
 
+/* The dose calendar of the sheet's RP 7, three times a day, two days on and three off; issued on 3 September 2018. */
+static uint8_t doses[YWS_MOST_DAYS + 1];
+
+static uint16_t calendar(uint32_t rp, uint32_t day, uint32_t days, uint64_t room) {
+    uint64_t refusal[YWS_LEN_REFUSAL] = {7, 7, 7, 7};
+    memset(doses, UNTOUCHED, sizeof doses);
+    uint16_t number = yws_calendar((const uint8_t *) sheet, strlen(sheet), rp, 2018, 9, day, days, doses, room, refusal);
+    for (int i = 0; i < YWS_LEN_REFUSAL; i++) IS(refusal[i], 0);
+    return number;
+}
+
+/* The result of a day's calendar of a sheet with one RP: its 111 from the kind on, and perhaps a 181 after it. */
+static uint16_t doses_result(const char *directions) {
+    char file[256];
+    uint64_t refusal[YWS_LEN_REFUSAL];
+    snprintf(file, sizeof file, "JAHIS5\r\n1,A\r\n5,A\r\n11,B\r\n12,1\r\n13,1\r\n22,\r\n23,1\r\n51,20180903\r\n101,1,1,,1\r\n111,1,%s\r\n"
+             "201,1,1,,1,,A,1,1,T\r\n\x1a", directions);
+    return yws_calendar((const uint8_t *) file, strlen(file), 1, 2018, 9, 3, 1, doses, 1, refusal);
+}
+
+static void calendars(void) {
+    static const uint8_t by_turns[] = {3, 3, 0, 0, 0, 3, 3};
+    uint64_t refusal[YWS_LEN_REFUSAL];
+    IS(calendar(7, 4, sizeof by_turns, sizeof doses), YWS_OK);
+    IS(memcmp(doses, by_turns, sizeof by_turns), 0);
+    IS(doses[sizeof by_turns], UNTOUCHED);
+    IS(calendar(7, 3, YWS_MOST_DAYS, YWS_MOST_DAYS), YWS_OK);
+    IS(doses[YWS_MOST_DAYS - 1], 3);
+    IS(doses[YWS_MOST_DAYS], UNTOUCHED);
+    IS(calendar(7, 3, YWS_MOST_DAYS + 1, sizeof doses), YWS_ERR_CALENDAR);
+    IS(calendar(7, 3, 0, sizeof doses), YWS_ERR_CALENDAR);
+    IS(calendar(7, 31, 1, sizeof doses), YWS_ERR_CALENDAR);
+    IS(calendar(7, 2, 1, sizeof doses), YWS_ERR_CALENDAR);
+    IS(calendar(8, 3, 1, sizeof doses), YWS_ERR_NO_RP);
+    IS(calendar(7, 3, YWS_MOST_DAYS, YWS_MOST_DAYS - 1), YWS_ERR_ROOM);
+    IS(doses[0], UNTOUCHED);
+    IS(doses_result("2,1013044400000000,W,"), YWS_OK);
+    IS(doses[0], 3);
+    IS(doses_result("1,,W,"), YWS_ERR_DOSES);
+    IS(doses_result("2,1050110000000000,W,"), YWS_ERR_DOSES);
+    IS(doses_result("2,2B73A00000000000,W,"), YWS_ERR_DOSES);
+    IS(doses_result("2,1013044400000000,W,\r\n181,1,1,8,A,CW100000,"), YWS_ERR_DOSES);
+    IS(yws_calendar((const uint8_t *) sheet, 3, 7, 2018, 9, 3, 1, doses, 1, refusal), YWS_ERR_FRAME);
+    IS(refusal[YWS_REFUSAL_OFFSET], 3);
+}
+
 /* The records that have a name are those that the library knows. */
 static void record_numbers(void) {
     static const int known[] = {
@@ -508,6 +554,7 @@ int main(void) {
     refusals();
     results();
     lengths();
+    calendars();
     record_numbers();
     printed();
     printf("%u names and values, %u passed\n", held, held - broken);

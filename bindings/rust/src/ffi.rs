@@ -3,8 +3,8 @@
 #![allow(unsafe_code)]
 
 pub(crate) use yawsimbel_sys::{
-    Date, Days, Record, Refusal, State, Supplement, Usage, DAYS, END, FILE_MOST, RECORD, REFUSAL, RUN_MOST, STATE,
-    SUPPLEMENT, USAGE,
+    Date, Days, Record, Refusal, State, Supplement, Usage, DAYS, DAYS_MOST, END, FILE_MOST, RECORD, REFUSAL, RUN_MOST,
+    STATE, SUPPLEMENT, USAGE,
 };
 
 use yawsimbel_sys as sys;
@@ -60,6 +60,22 @@ pub(crate) fn sheet_open(file: &[u8], state: &mut State) -> u16 {
 pub(crate) fn sheet_next(file: &[u8], state: &mut State, record: &mut Record, refusal: &mut Refusal) -> u16 {
     // SAFETY: as above.
     unsafe { sys::yws_sheet_next(file.as_ptr(), length(file), state, record, refusal) }
+}
+
+/// Any numbers may be handed in. The start is a year, a month and a day.
+pub(crate) fn calendar(
+    file: &[u8],
+    rp: u32,
+    [year, month, day]: [u32; 3],
+    days: u32,
+    doses: &mut [u8],
+    refusal: &mut Refusal,
+) -> u16 {
+    let (file_length, room) = (length(file), length(doses));
+    // SAFETY: as above.
+    unsafe {
+        sys::yws_calendar(file.as_ptr(), file_length, rp, year, month, day, days, doses.as_mut_ptr(), room, refusal)
+    }
 }
 
 pub(crate) fn writer_open(out: &mut [u8], state: &mut State) -> u16 {

@@ -1,4 +1,4 @@
-//! Japanese prescription files (JAHIS Ver.1.4), and the usage and supplementary codes in them, read and written.
+//! Japanese prescription files (JAHIS Ver.1.4), and the usage and supplementary codes in them, read and written; and the doses that they give a day.
 //!
 //! A safe cover over the C interface of a library that is proved. Nothing is allocated: texts are parts of the file that was read, and files
 //! are written into a buffer of the caller's.
@@ -30,6 +30,7 @@
 extern crate alloc;
 
 mod amount;
+mod calendar;
 mod code;
 mod date;
 mod days;
@@ -49,6 +50,7 @@ mod utf8;
 mod week;
 
 pub use amount::Amount;
+pub use calendar::{Calendar, CalendarRefusal};
 pub use code::{Code, SupplementCode, UsageCode};
 pub use date::{Date, DateText, Era, Style};
 pub use days::{Day, DaySet, DaySetIter, RunRefusal};

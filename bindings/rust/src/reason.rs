@@ -72,6 +72,13 @@ pub enum Reason {
     Record = 34,
     /// No code reads as this.
     NoCode = 35,
+    /// The RP fixes no doses for its days: a code with a count in a period, no usage code, a usage as needed, a count that is about so many or a
+    /// range.
+    Doses = 50,
+    /// The days are not 1 to 366, or the start date is none or before the issue date.
+    Calendar = 51,
+    /// The sheet has no such RP.
+    NoRp = 53,
     /// A number that this crate does not know, or a value in an answer: the library is newer.
     Other = 0,
 }
@@ -80,10 +87,10 @@ impl Reason {
     /// The reason of a number.
     pub fn of(number: u16) -> Reason {
         use Reason::*;
-        const ALL: [Reason; 28] = [
+        const ALL: [Reason; 31] = [
             Length, First, Detail, Timing, Character, Unused, Count, Rule, Rising, IssueMonth, DaySet, Run, TooLong,
             Frame, Version, Unknown, Order, Fields, Text, Value, Present, Code, Counter, Schedule, Missing, Room,
-            Record, NoCode,
+            Record, NoCode, Doses, Calendar, NoRp,
         ];
         ALL.iter().copied().find(|reason| reason.number() == number).unwrap_or(Other)
     }
@@ -126,6 +133,14 @@ impl Reason {
             Reason::Room => "the buffer has no room",
             Reason::Record => "the record would be refused when it is read",
             Reason::NoCode => "no code reads as this",
+            Reason::Doses => {
+                "the RP fixes no doses for its days: \
+                 no usage code, as needed, about so often or a range, or so often in a period"
+            }
+            Reason::Calendar => {
+                "the days are not 1 to 366, or the start is no day from 1868 to 2099 or is before the issue date"
+            }
+            Reason::NoRp => "the sheet has no RP of this number",
             Reason::Other => "the library says what this crate does not know",
         }
     }

@@ -31,7 +31,7 @@ pub struct SheetRefusal {
 }
 
 impl SheetRefusal {
-    fn of(number: u16, n: &ffi::Refusal) -> SheetRefusal {
+    pub(crate) fn of(number: u16, n: &ffi::Refusal) -> SheetRefusal {
         let reason = Reason::of(number);
         let code = CodeRefusal { reason: Reason::of(u16::try_from(n[2]).unwrap_or(0)), place: n[3] };
         SheetRefusal {

@@ -4,8 +4,8 @@ use std::env;
 use std::path::{Path, PathBuf};
 use std::process::exit;
 
-/// What the library is called. The second is for x86-64 alone: `rt staticlib capi` writes it.
-const NAMES: [&str; 2] = ["libyawsimbel.a", "libcapi.a"];
+/// What the library is called.
+const NAME: &str = "libyawsimbel.a";
 
 fn main() {
     println!("cargo:rerun-if-env-changed=YAWSIMBEL_LIB");
@@ -22,23 +22,20 @@ fn named() -> Option<PathBuf> {
     if place.is_file() {
         return Some(place);
     }
-    let inside = NAMES.iter().map(|name| place.join(name)).find(|archive| archive.is_file());
-    Some(inside.unwrap_or_else(|| refuse(&place)))
+    let inside = place.join(NAME);
+    Some(if inside.is_file() { inside } else { refuse(&place) })
 }
 
 /// The archive for this processor that the repository has built. Where there is none, every build looks again.
 fn built() -> Option<PathBuf> {
     let made = PathBuf::from(env::var_os("CARGO_MANIFEST_DIR")?).join("../../../target/staticlib");
     let processor = env::var("CARGO_CFG_TARGET_ARCH").ok()?;
-    let mut places = vec![made.join(&processor).join(NAMES[0])];
-    if processor == "x86_64" {
-        places.push(made.join(NAMES[1]));
+    let archive = made.join(processor).join(NAME);
+    if archive.is_file() {
+        return Some(archive);
     }
-    let there = places.iter().find(|archive| archive.is_file()).cloned();
-    if there.is_none() {
-        places.iter().for_each(|place| println!("cargo:rerun-if-changed={}", place.display()));
-    }
-    there
+    println!("cargo:rerun-if-changed={}", archive.display());
+    None
 }
 
 fn link(archive: &Path) {
@@ -54,7 +51,7 @@ fn link(archive: &Path) {
 
 /// Says what is wrong and what would be right.
 fn refuse(place: &Path) -> ! {
-    eprintln!("YAWSIMBEL_LIB: {} is no library libNAME.a, nor a folder with {}", place.display(), NAMES.join(" or "));
+    eprintln!("YAWSIMBEL_LIB: {} is no library libNAME.a, nor a folder with {}", place.display(), NAME);
     eprintln!("In the repository's root, build it and say where it is, or leave YAWSIMBEL_LIB unset:");
     eprintln!("    bindings/build $(uname -m)");
     eprintln!("    export YAWSIMBEL_LIB=\"$PWD/target/staticlib/$(uname -m)\"");

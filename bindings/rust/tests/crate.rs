@@ -444,10 +444,122 @@ fn refused_records() {
     assert!(Writer::open(&mut [0; 9]).is_ok());
 }
 
+fn day(year: u16, month: u8, day: u8) -> Date {
+    Date::try_from((year, month, day)).unwrap()
+}
+
+/// The doses of RP 1 of a file, the same by value and in a buffer, of which the rest stays.
+fn doses(file: &[u8], start: Date, days: usize) -> Vec<u8> {
+    let calendar = Calendar::make(file, 1, start, days).unwrap();
+    let mut out = vec![b'!'; days + 2];
+    assert_eq!(Calendar::fill(file, 1, start, days, &mut out), Ok(calendar.as_slice()));
+    assert_eq!(out[days..], *b"!!");
+    assert_eq!(calendar.into_iter().copied().collect::<Vec<_>>(), calendar.as_slice());
+    calendar.as_slice().to_vec()
+}
+
+#[test]
+fn calendars() {
+    assert_eq!(doses(SAMPLE, day(2018, 7, 2), 7), [3, 0, 3, 0, 3, 0, 3]);
+    assert_eq!(doses(SAMPLE, day(2018, 7, 3), 3), [3, 0, 3]);
+    assert_eq!(doses(SAMPLE, "4310430".parse().unwrap(), 3), [3, 0, 3]);
+    let with_code = |code: &str| with("I1100000", code);
+    assert_eq!(doses(&with_code("W0100100"), day(2018, 7, 2), 8), [3, 0, 0, 3, 0, 0, 0, 3]);
+    assert_eq!(doses(&with_code("W0000010"), day(2099, 12, 31), 2), [0, 3]);
+    assert_eq!(doses(&with_code("D0V00000"), day(2018, 8, 30), 4), [0, 3, 0, 0]);
+    assert_eq!(doses(&with_code("D7V00000"), day(2018, 7, 30), 4), [0, 3, 0, 0]);
+    assert_eq!(doses(&with_code("D7V00000"), day(2019, 7, 30), 4), [0; 4]);
+    assert_eq!(doses(&with_code("D2T00000"), day(2019, 2, 28), 2), [0, 0]);
+    let every_day = with("181,1,1,8,EVERY OTHER DAY,I1100000,", "181,1,1,3,EVERY OTHER DAY,,");
+    assert_eq!(doses(&every_day, day(2099, 12, 31), Calendar::LONGEST), [3; Calendar::LONGEST]);
+    let calendar = Calendar::make(SAMPLE, 1, day(2018, 7, 2), 3).unwrap();
+    assert_eq!((format!("{calendar:?}"), calendar.as_ref()), ("[3, 0, 3]".into(), &[3, 0, 3][..]));
+    assert_eq!(calendar, Calendar::make(SAMPLE, 1, day(2018, 7, 4), 3).unwrap());
+    assert_ne!(calendar, Calendar::make(SAMPLE, 1, day(2018, 7, 2), 4).unwrap());
+}
+
+/// Why a calendar is refused, by value and in a buffer of some room, which stays.
+fn refused_calendar(file: &[u8], rp: u16, start: Date, days: usize, room: usize) -> CalendarRefusal {
+    let mut out = vec![b'!'; room];
+    let refusal = Calendar::fill(file, rp, start, days, &mut out).unwrap_err();
+    assert!(out.iter().all(|byte| *byte == b'!'));
+    if refusal != CalendarRefusal::Room {
+        assert_eq!(Calendar::make(file, rp, start, days), Err(refusal));
+    }
+    refusal
+}
+
+#[test]
+fn refused_calendars() {
+    let start = day(2018, 7, 2);
+    let before = day(2018, 7, 1);
+    let words = with("111,1,2,1013044400000000,AFTER MEALS,3", "111,1,1,,AFTER MEALS,3");
+    let bad = with("1013044400000000", "1012044400000000");
+    // One fault less each time.
+    let own = check(&bad).unwrap_err();
+    assert_eq!(refused_calendar(&bad, 2, before, 0, 0), CalendarRefusal::Sheet(own));
+    assert_eq!(refused_calendar(&words, 2, before, 0, 0), CalendarRefusal::NoRp);
+    assert_eq!(refused_calendar(&words, 1, before, 0, 0), CalendarRefusal::Calendar);
+    assert_eq!(refused_calendar(&words, 1, before, 1, 0), CalendarRefusal::Calendar);
+    assert_eq!(refused_calendar(&words, 1, start, 1, 0), CalendarRefusal::Doses);
+    assert_eq!(refused_calendar(SAMPLE, 1, start, 1, 0), CalendarRefusal::Room);
+    assert_eq!(refused_calendar(SAMPLE, 1, start, 366, 365), CalendarRefusal::Room);
+    for rp in [0, 2, 257, 999, 1000, u16::MAX] {
+        assert_eq!(refused_calendar(SAMPLE, rp, start, 1, 9), CalendarRefusal::NoRp);
+    }
+    for days in [0, 367, 512 + 7, 65_536 + 7, u32::MAX as usize, usize::MAX] {
+        assert_eq!(refused_calendar(SAMPLE, 1, start, days, 400), CalendarRefusal::Calendar);
+    }
+    for code in ["1050110000000000", "2B73A00000000000", "2B71200000000000", "2B71N00000000000"] {
+        assert_eq!(refused_calendar(&with("1013044400000000", code), 1, start, 7, 9), CalendarRefusal::Doses, "{code}");
+    }
+    assert_eq!(refused_calendar(&with("I1100000", "CW100000"), 1, start, 7, 9), CalendarRefusal::Doses);
+    let own = CalendarRefusal::Sheet(own);
+    assert_eq!((own.reason(), own.to_string()), (Reason::Code, check(&bad).unwrap_err().to_string()));
+    let room = CalendarRefusal::Room;
+    assert_eq!((room.reason(), room.to_string().as_str()), (Reason::Room, "the buffer has no room (33)"));
+}
+
+/// Every RP of the corpus: a shorter calendar is the beginning of the longest, and a refusal is the same for all lengths.
+#[test]
+fn calendars_of_the_corpus() {
+    let folder = concat!(env!("CARGO_MANIFEST_DIR"), "/../corpus/sheets");
+    let (mut taken, mut refused) = (0, 0);
+    for sheet in std::fs::read_dir(folder).unwrap() {
+        let sheet = std::fs::read(sheet.unwrap().path()).unwrap();
+        let mut issue = None;
+        for record in Sheet::open(&sheet).map_while(Result::ok) {
+            match record {
+                Record::Issue(date) => issue = Some(date),
+                Record::Rp(rp) => {
+                    let start = issue.unwrap();
+                    let longest = Calendar::make(&sheet, rp.rp, start, Calendar::LONGEST);
+                    for days in [1, 2, 7, 31, 365] {
+                        let shorter = Calendar::make(&sheet, rp.rp, start, days);
+                        assert_eq!(
+                            shorter.map(|shorter| shorter.as_slice().to_vec()),
+                            longest.map(|longest| longest.as_slice()[..days].to_vec())
+                        );
+                    }
+                    match longest {
+                        Ok(_) => taken += 1,
+                        Err(refusal) => {
+                            assert!(refusal == CalendarRefusal::Doses || check(&sheet).is_err(), "{refusal}");
+                            refused += 1;
+                        }
+                    }
+                }
+                _ => {}
+            }
+        }
+    }
+    assert!(taken >= 20 && refused >= 20, "{taken} {refused}");
+}
+
 #[test]
 fn reasons() {
     let known: Vec<u16> = (0..=255).filter(|number| Reason::of(*number) != Reason::Other).collect();
-    assert_eq!(known, (1..=12).chain(20..=35).collect::<Vec<_>>());
+    assert_eq!(known, (1..=12).chain(20..=35).chain([50, 51, 53]).collect::<Vec<_>>());
     for number in known {
         assert_eq!(u16::from(Reason::of(number)), number);
         assert!(Reason::of(number).to_string().ends_with(&format!(" ({number})")));
@@ -465,8 +577,10 @@ fn errors_and_threads() {
     error::<RunRefusal>();
     error::<SheetRefusal>();
     error::<WriteRefusal>();
+    error::<CalendarRefusal>();
     shared::<Sheet>();
     shared::<Writer>();
     shared::<Record>();
     shared::<DaySet>();
+    shared::<Calendar>();
 }

@@ -26,6 +26,8 @@ pub const REFUSAL: usize = 4;
 pub const FILE_MOST: usize = 16_384;
 /// Bytes of the longest run, 67 codes of 8.
 pub const RUN_MOST: usize = 536;
+/// Days of the longest dose calendar, a byte each.
+pub const DAYS_MOST: usize = 366;
 
 /// A usage code.
 pub type Usage = [u64; USAGE];
@@ -73,6 +75,20 @@ extern "C" {
         length: u64,
         state: &mut State,
         record: &mut Record,
+        refusal: &mut Refusal,
+    ) -> u16;
+
+    /// Writes the dose calendar of an RP.
+    pub fn yws_calendar(
+        file: *const u8,
+        length: u64,
+        rp: u32,
+        year: u32,
+        month: u32,
+        day: u32,
+        days: u32,
+        doses: *mut u8,
+        room: u64,
         refusal: &mut Refusal,
     ) -> u16;
 
