@@ -1,6 +1,7 @@
 // Checks every sheet whose name stands on standard input, a name a line, and prints each name with the line that tells what the sheet is read as.
 // A sheet that is taken is written again too, and a line of its own tells whether that gave the same bytes; each of its codes is written again
-// by itself, and a last line tells how many came out otherwise. After the word `labels` a name asks for the sheet's bag labels instead.
+// by itself, and a last line tells how many came out otherwise. After the word `labels` a name asks for the sheet's bag labels instead, and after
+// the word `calendar` for the dose calendar that the file's first line asks of the sheet behind it.
 mod codes;
 
 use codes::Again;
@@ -53,57 +54,75 @@ fn check_each(names: &[u8]) {
     codes::tell(a)
 }
 
-// Does a line begin with the word `labels` and a space?
-fn asks_labels(s: &[u8]) -> bool
-    ensures { λ r. ⌜ (r ≡ true → 7 ≤ length (now (s .entry))) ⌝ }
+// What a line asks of the file that it names.
+enum Asked {
+    Sheet,
+    Labels,
+    Calendar,
+}
+
+// Does a line begin with a word?
+fn begins(line: &[u8], word: &[u8]) -> bool
+    ensures { λ r. ⌜ (r ≡ true → length (now (word .entry)) ≤ length (now (line .entry))) ⌝ }
 {
-    if s.len() < 7 {
+    let n = word.len();
+    if line.len() < n {
         return false;
     }
-    (s[0] == b'l')
-        & ((s[1] == b'a')
-            & ((s[2] == b'b')
-                & ((s[3] == b'e') & ((s[4] == b'l') & ((s[5] == b's') & (s[6] == b' '))))))
+    cells::same_bytes(&line[0..n], word)
 }
 
 fn tell_line(line: &[u8], a: Again) -> Again {
-    if asks_labels(line) {
-        return tell_file(&line[7..line.len()], true, a);
+    if begins(line, b"labels ") {
+        return tell_file(&line[7..], Asked::Labels, a);
     }
-    tell_file(line, false, a)
+    if begins(line, b"calendar ") {
+        return tell_file(&line[9..], Asked::Calendar, a);
+    }
+    tell_file(line, Asked::Sheet, a)
 }
 
-// A sheet that can't be opened is told as one, and never passes for any answer.
-fn tell_file(name: &[u8], labels: bool, a: Again) -> Again {
+// A file that can't be opened is told as one, and never passes for any answer. The room is a calendar's: for the longest question, the longest
+// sheet, and one byte more by which a longer one is known.
+fn tell_file(name: &[u8], asked: Asked, a: Again) -> Again {
     io::write_all(STDOUT_FILENO, name);
     let fd = os::open_read(name);
     if fd < 0 {
         io::write_all(STDOUT_FILENO, b" cannot be opened\n");
         return a;
     }
-    let mut room = [0u8; 16385];
-    let b = tell_into(&mut room, fd, labels, a);
+    let mut room = [0u8; 32768];
+    let b = tell_into(&mut room, fd, asked, a);
     libc::close(fd);
     b
 }
 
-fn tell_into(room: &mut [u8; 16385], fd: i32, labels: bool, a: Again) -> Again {
-    tell_from(room, fd, labels, a)
+fn tell_into(room: &mut [u8; 32768], fd: i32, asked: Asked, a: Again) -> Again {
+    tell_from(room, fd, asked, a)
 }
 
-fn tell_from(room: &mut [u8], fd: i32, labels: bool, a: Again) -> Again {
+fn tell_from(room: &mut [u8], fd: i32, asked: Asked, a: Again) -> Again {
     let n = io::read_full(fd, room);
-    tell_sheet(&room[0..n], labels, a)
+    tell_read(&room[0..n], asked, a)
 }
 
-fn tell_sheet(s: &[u8], labels: bool, a: Again) -> Again {
-    if labels {
-        io::write_all(STDOUT_FILENO, b"\n");
-        label::sheet(s);
-        return a;
+fn tell_read(s: &[u8], asked: Asked, a: Again) -> Again {
+    match asked {
+        Asked::Sheet => {
+            io::write_all(STDOUT_FILENO, b" ");
+            check_sheet(s, a)
+        }
+        Asked::Labels => {
+            io::write_all(STDOUT_FILENO, b"\n");
+            label::sheet(s);
+            a
+        }
+        Asked::Calendar => {
+            io::write_all(STDOUT_FILENO, b" ");
+            dose_report::answer(s);
+            a
+        }
     }
-    io::write_all(STDOUT_FILENO, b" ");
-    check_sheet(s, a)
 }
 
 fn check_sheet(s: &[u8], a: Again) -> Again {
