@@ -203,6 +203,21 @@ static void sheet_next(struct question q) {
         say_numbers(reader.state, YWS_LEN_STATE);
 }
 
+/* The doses of an RP, day by day, in some room. */
+static void calendar(struct question q) {
+    uint32_t rp = (uint32_t) take_number(&q, 4), year = (uint32_t) take_number(&q, 4), month = (uint32_t) take_number(&q, 4);
+    uint32_t day = (uint32_t) take_number(&q, 4), days = (uint32_t) take_number(&q, 4);
+    size_t room = take_number(&q, 4);
+    if (room > LENT_MOST) stop("too much room asked for");
+    uint8_t *doses = out_end - room;
+    uint64_t refusal[YWS_LEN_REFUSAL];
+    memset(doses, UNTOUCHED, room);
+    memset(refusal, UNTOUCHED, sizeof refusal);
+    say_returned(yws_calendar(q.bytes, q.length, rp, year, month, day, days, doses, room, refusal));
+    say_numbers(refusal, YWS_LEN_REFUSAL);
+    say(doses, room);
+}
+
 /* A writer's room, its state and a copy of both, to see what a refusal left alone. */
 struct lent_writer {
     uint8_t *out;
@@ -340,6 +355,7 @@ int main(void) {
         case 'P': puts_in_turn(q); break;
         case 'N': sheet_next(q); break;
         case 'K': put_and_close(q); break;
+        case 'L': calendar(q); break;
         default: stop("no such question");
         }
         uint8_t length[4];

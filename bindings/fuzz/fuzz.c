@@ -1,5 +1,6 @@
 /* Throws bytes at the library and checks what must hold of any: nothing but what is lent is touched, a refusal leaves what it must, a file that
- * is taken is written back byte for byte, what is written is read as the same, and an issue date is the one that is made of its day.
+ * is taken is written back byte for byte, what is written is read as the same, an issue date is the one that is made of its day, and the calendars
+ * of an RP agree with each other and with what is said of its sheet.
  *
  * With clang's libFuzzer (-fsanitize=fuzzer) this is its target. Built without it (-DYWS_ALONE) it has a loop of its own that changes the
  * bytes of the files it is given:
@@ -17,7 +18,7 @@
 static uint8_t *file_end, *out_end;
 static const uint8_t *tried;
 static size_t tried_length;
-static unsigned long taken, sheets_taken;
+static unsigned long taken, sheets_taken, calendars_taken;
 
 static void hold(int so, const char *what) {
     if (so) return;
@@ -162,6 +163,154 @@ static void sheet(const uint8_t *file, size_t length) {
     sheets_taken++;
 }
 
+/* Numbers that follow from the input: its bytes, mixed, begin them. */
+static uint64_t mixed;
+
+static void mix(const uint8_t *bytes, size_t length) {
+    mixed = UINT64_C(0xcbf29ce484222325);
+    for (size_t i = 0; i < length; i++) mixed = (mixed ^ bytes[i]) * UINT64_C(0x100000001b3);
+}
+
+static uint32_t draw(uint32_t bound) {
+    mixed = mixed * UINT64_C(6364136223846793005) + UINT64_C(1442695040888963407);
+    return (uint32_t) (mixed >> 33) % bound;
+}
+
+/* What is asked of a calendar. */
+struct asked {
+    uint32_t rp, year, month, day, days;
+    int at_issue; /* the start is the issue date itself */
+};
+
+static uint8_t rps[1000]; /* 1 for each RP number that a sheet has */
+
+/* An RP of the sheet and days about its issue date, and now and then any numbers. */
+static struct asked drawn_question(const uint8_t *file, size_t length) {
+    struct asked a = {1, 2018, 7, 2, 1, 0};
+    struct yws_reader reader = {{0}};
+    uint64_t record[YWS_LEN_RECORD], refusal[YWS_LEN_REFUSAL];
+    uint32_t count = 0;
+    memset(rps, 0, sizeof rps);
+    yws_sheet_open(file, length, &reader);
+    while (yws_sheet_next(file, length, &reader, record, refusal) == YWS_OK) {
+        if (record[YWS_ANY_RECORD] == YWS_RECORD_ISSUE) {
+            a.year = (uint32_t) record[YWS_ISSUE_YEAR];
+            a.month = (uint32_t) record[YWS_ISSUE_MONTH];
+            a.day = (uint32_t) record[YWS_ISSUE_DAY];
+        }
+        if (record[YWS_ANY_RECORD] == YWS_RECORD_RP) {
+            rps[record[YWS_RP_NUMBER]] = 1;
+            if (draw(++count) == 0) a.rp = (uint32_t) record[YWS_RP_NUMBER];
+        }
+    }
+    if (draw(8) == 0) a.rp = draw(2) == 0 ? draw(1002) : a.rp + (draw(2) == 0 ? 256 : 65536);
+    switch (draw(6)) {
+    case 0: a.at_issue = 1; break;
+    case 1: a.day += draw(3) - 1; break;
+    case 2:
+        a.year = 1866 + draw(236);
+        a.month = draw(14);
+        a.day = draw(33);
+        break;
+    case 3: a.month += UINT32_C(1) << draw(32); break;
+    default:
+        a.year += draw(3);
+        a.month = 1 + draw(12);
+        a.day = 1 + draw(31);
+    }
+    a.days = draw(8) == 0 ? UINT32_MAX >> draw(32) : draw(8) == 0 ? 365 + draw(4) : 1 + draw(366);
+    return a;
+}
+
+/* The times a day that an RP's records fix; 0 where they fix none: without a code, as needed, about so many or a range, or so often in a period. */
+static uint64_t fixed_times(const uint8_t *file, size_t length, uint32_t rp) {
+    struct yws_reader reader = {{0}};
+    uint64_t record[YWS_LEN_RECORD], refusal[YWS_LEN_REFUSAL], times = 0;
+    const uint64_t *usage = record + YWS_DIRECTIONS_CODE, *supplement = record + YWS_EXTRA_CODE;
+    yws_sheet_open(file, length, &reader);
+    while (yws_sheet_next(file, length, &reader, record, refusal) == YWS_OK) {
+        if (record[YWS_ANY_RECORD] == YWS_RECORD_DIRECTIONS && record[YWS_DIRECTIONS_RP] == rp)
+            times = usage[YWS_USAGE_ABOUT] == YWS_USAGE_ABOUT_EXACT ? usage[YWS_USAGE_TIMES] : 0;
+        if (record[YWS_ANY_RECORD] == YWS_RECORD_EXTRA && record[YWS_EXTRA_RP] == rp &&
+            supplement[YWS_SUPPLEMENT_LETTER] == YWS_SUPPLEMENT_LETTER_COUNT)
+            times = 0;
+    }
+    return times;
+}
+
+/* The most doses of a day: hours, and even intervals, are eight at most. */
+enum { DOSES_MOST = 8, ROOM_MOST = 400 };
+
+/* A calendar into the last `room` bytes that can be lent: its number, and that all else is as it must be. */
+static uint16_t calendar(const uint8_t *file, size_t length, struct asked a, size_t room, uint64_t refusal[YWS_LEN_REFUSAL]) {
+    uint8_t *doses = out_end - room, times = 0;
+    memset(doses, UNTOUCHED, room);
+    memset(refusal, UNTOUCHED, YWS_LEN_REFUSAL * sizeof *refusal);
+    uint16_t number = yws_calendar(file, length, a.rp, a.year, a.month, a.day, a.days, doses, room, refusal);
+    if (number != YWS_OK) {
+        hold(all_untouched(doses, room), "calendar: refused, yet written");
+        return number;
+    }
+    hold(a.days >= 1 && a.days <= YWS_MOST_DAYS && a.days <= room, "calendar: taken with a bad number of days or too little room");
+    hold(all_untouched(doses + a.days, room - a.days), "calendar: past its days");
+    for (uint32_t i = 0; i < a.days; i++) {
+        if (times == 0) times = doses[i];
+        hold(doses[i] == 0 || doses[i] == times, "calendar: two numbers of doses");
+    }
+    hold(times <= DOSES_MOST, "calendar: no such number of doses");
+    return number;
+}
+
+/* A calendar of the bytes as a sheet, of which the check says this. */
+static void one_calendar(const uint8_t *file, size_t length, uint16_t sheet, const uint64_t own[YWS_LEN_REFUSAL]) {
+    static uint8_t first[YWS_MOST_DAYS];
+    uint64_t refusal[YWS_LEN_REFUSAL];
+    struct asked a = drawn_question(file, length);
+    size_t room = draw(2) == 0 ? ROOM_MOST : a.days < ROOM_MOST ? a.days + draw(3) - (a.days > 0) : draw(ROOM_MOST);
+    uint16_t number = calendar(file, length, a, room, refusal);
+    if (sheet != YWS_OK) {
+        hold(number == sheet && memcmp(refusal, own, sizeof refusal) == 0, "calendar: not the sheet's own refusal");
+        return;
+    }
+    hold(all_zero(refusal, YWS_LEN_REFUSAL), "calendar: a place, and the sheet is right");
+    hold((number == YWS_ERR_NO_RP) == (a.rp >= 1000 || !rps[a.rp]), "calendar: no RP where there is one, or one where there is none");
+    switch (number) {
+    case YWS_OK: memcpy(first, out_end - room, a.days); break;
+    case YWS_ERR_NO_RP: return;
+    case YWS_ERR_CALENDAR:
+        hold(!a.at_issue || a.days == 0 || a.days > YWS_MOST_DAYS, "calendar: 51 for good days from the issue date on");
+        hold(calendar(file, length, a, 0, refusal) == YWS_ERR_CALENDAR, "calendar: 51 goes by the room");
+        return;
+    case YWS_ERR_DOSES: break;
+    case YWS_ERR_ROOM:
+        hold(room < a.days, "calendar: no room, yet enough");
+        hold(calendar(file, length, a, a.days, refusal) == YWS_OK, "calendar: room for each day is too little");
+        memcpy(first, out_end - a.days, a.days);
+        break;
+    default: hold(0, "calendar: no such number");
+    }
+    uint64_t times = fixed_times(file, length, a.rp);
+    hold((number == YWS_ERR_DOSES) == (times == 0), "calendar: doses that the RP does not fix, or none though it does");
+    /* 50 is given for all lengths or none; a longer calendar agrees with a shorter one on the days that they share. */
+    struct asked longest = a;
+    longest.days = YWS_MOST_DAYS;
+    uint16_t again = calendar(file, length, longest, YWS_MOST_DAYS, refusal);
+    hold(again == (number == YWS_ERR_DOSES ? YWS_ERR_DOSES : YWS_OK), "calendar: another answer for another length");
+    if (again != YWS_OK) return;
+    hold(memcmp(first, out_end - YWS_MOST_DAYS, a.days) == 0, "calendar: a longer one differs");
+    for (int i = 1; i <= YWS_MOST_DAYS; i++) hold(out_end[-i] == 0 || out_end[-i] == times, "calendar: not the times a day of the RP");
+    hold(calendar(file, length, longest, YWS_MOST_DAYS - 1, refusal) == YWS_ERR_ROOM, "calendar: too little room, yet taken");
+    calendars_taken++;
+}
+
+/* Some calendars of a sheet that is taken, one of any other bytes. */
+static void calendars(const uint8_t *file, size_t length) {
+    uint64_t records, own[YWS_LEN_REFUSAL];
+    uint16_t sheet = yws_sheet_check(file, length, &records, own);
+    mix(file, length);
+    for (int left = sheet == YWS_OK ? 4 : 1; left > 0; left--) one_calendar(file, length, sheet, own);
+}
+
 /* Bytes of chance as a state that no call gave: a call on it returns one of few numbers, and a refusal leaves all as it was. */
 static void states(const uint8_t *file, size_t length) {
     uint64_t made[YWS_LEN_STATE] = {0}, record[YWS_LEN_RECORD], refusal[YWS_LEN_REFUSAL], own;
@@ -225,6 +374,7 @@ int LLVMFuzzerTestOneInput(const uint8_t *data, size_t size) {
     tried = data;
     tried_length = size;
     sheet(file, size);
+    calendars(file, size);
     states(file, size);
     if (size <= 1024) {
         codes(file, size);
@@ -347,9 +497,10 @@ int main(int words, char **word) {
     double seconds = atof(word[1]);
     seed = strtoull(word[2], NULL, 10) | 1;
     size_t count = (size_t) words - 3;
-    struct bytes *corpus = calloc(count, sizeof *corpus);
+    /* The files as they are given, which stay, and as many that come after them. */
+    struct bytes *corpus = calloc(2 * count, sizeof *corpus);
     if (corpus == NULL) return 2;
-    for (size_t i = 0; i < count; i++) corpus[i] = whole_file(word[i + 3]);
+    for (size_t i = 0; i < 2 * count; i++) corpus[i] = whole_file(word[i % count + 3]);
     static uint8_t b[MOST];
     struct timespec start, now;
     clock_gettime(CLOCK_MONOTONIC, &start);
@@ -359,24 +510,24 @@ int main(int words, char **word) {
             clock_gettime(CLOCK_MONOTONIC, &now);
             if ((double) (now.tv_sec - start.tv_sec) + 1e-9 * (double) (now.tv_nsec - start.tv_nsec) >= seconds) break;
         }
-        struct bytes from = corpus[below(count)];
+        struct bytes from = corpus[below(2 * count)];
         /* Half are whole files, half are fields or words, which may be codes and runs. */
         if (below(2) == 0) from = word_of(below(2) ? from : corpus[count - 1]);
         size_t length = from.length;
         memcpy(b, from.at, length);
-        for (size_t changes = below(5); changes > 0; changes--) length = change(b, length, corpus[below(count)]);
+        for (size_t changes = below(5); changes > 0; changes--) length = change(b, length, corpus[below(2 * count)]);
         unsigned long before = sheets_taken;
         LLVMFuzzerTestOneInput(b, length);
         /* A changed sheet that is taken is a start for others. */
         if (sheets_taken > before && length > 0 && below(8) == 0) {
-            size_t slot = below(count);
-            if (slot == count - 1) slot = 0;
+            size_t slot = count + below(count);
             memcpy(corpus[slot].at, b, length);
             corpus[slot].length = length;
         }
         tries++;
     }
-    printf("%lu inputs in %.0f s from seed %s, %lu sheets and %lu codes and runs taken, 0 faults\n", tries, seconds, word[2], sheets_taken, taken);
+    printf("%lu inputs in %.0f s from seed %s, %lu sheets, %lu calendars and %lu codes and runs taken, 0 faults\n", tries, seconds, word[2],
+           sheets_taken, calendars_taken, taken);
     return 0;
 }
 #endif

@@ -1,5 +1,6 @@
 //! The other side of the answerer: the same questions, answered in the same bytes by the independent implementation.
 
+use crate::calendars::{self, Asked};
 use crate::model;
 
 /// What memory holds that a call has not written.
@@ -59,6 +60,17 @@ pub fn numbers_given(question: &Question, answer: &[u8]) -> Vec<u16> {
             given
         }
         _ => vec![parts.number(2) as u16],
+    }
+}
+
+/// Something that a question and its answer meet: the number that is answered, and what it came from.
+pub type Met = (u16, &'static str);
+
+/// What a question and its answer meet beside their number.
+pub fn met(question: &Question, answer: &[u8]) -> Vec<Met> {
+    match question.asked {
+        b'L' => calendars::met(&Asked::of(&question.bytes), answer),
+        _ => Vec::new(),
     }
 }
 
@@ -123,6 +135,7 @@ pub fn answer(question: &Question) -> Vec<u8> {
         b'P' => puts_in_turn(parts, &mut answer),
         b'N' => sheet_next(parts, &mut answer),
         b'K' => put_and_close(parts, &mut answer),
+        b'L' => calendar(parts.0, &mut answer),
         other => unreachable!("no question {other}"),
     }
     answer.0
@@ -188,6 +201,15 @@ fn sheet_check(file: &[u8], answer: &mut Answer) {
     answer.returned(number);
     answer.numbers(&[records]);
     answer.numbers(&refusal);
+}
+
+fn calendar(question: &[u8], answer: &mut Answer) {
+    let asked = Asked::of(question);
+    let mut doses = vec![UNTOUCHED; asked.room as usize];
+    let (number, refusal) = model::calendar(asked.file, asked.rp, asked.start, asked.days, &mut doses);
+    answer.returned(number);
+    answer.numbers(&refusal);
+    answer.bytes(&doses);
 }
 
 /// What is said of a state that a call left: where it is, and 0s for what is left over.

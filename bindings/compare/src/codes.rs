@@ -307,7 +307,7 @@ pub fn supplements(random: &mut Random, known: &Known, count: usize, ask: &mut i
 }
 
 /// A set of days that can be written, mostly.
-fn grown_set(random: &mut Random) -> [u32; 13] {
+pub fn grown_set(random: &mut Random) -> [u32; 13] {
     const LONGEST: [u32; 13] = [31, 31, 29, 31, 30, 31, 30, 31, 31, 30, 31, 30, 31];
     let mut set = [0; 13];
     let every = random.once_in(4);
@@ -322,7 +322,7 @@ fn grown_set(random: &mut Random) -> [u32; 13] {
 }
 
 /// The run of a set.
-fn run_of(issue: u8, set: &[u32; 13]) -> Vec<u8> {
+pub fn run_of(issue: u8, set: &[u32; 13]) -> Vec<u8> {
     let mut out = vec![0; 536];
     let codes = model::set_write(issue, set, &mut out).unwrap_or(0);
     out.truncate(8 * codes as usize);

@@ -5,6 +5,7 @@
 //! number that is added to each.
 
 mod answer;
+mod calendars;
 mod codes;
 mod model;
 mod random;
@@ -20,14 +21,14 @@ use std::sync::mpsc::{channel, Receiver};
 use std::thread;
 use std::time::Instant;
 
-use answer::Question;
+use answer::{Met, Question};
 use random::Random;
 
 /// How many differences of a kind are shown.
 const SHOWN: usize = 5;
 
 /// What is asked about, with its seed and how many are drawn.
-const KINDS: [(&str, u64, usize); 10] = [
+const KINDS: [(&str, u64, usize); 11] = [
     ("usage codes", 101, 200_000),
     ("event rows", 0, 0),
     ("supplementary codes", 102, 200_000),
@@ -37,6 +38,7 @@ const KINDS: [(&str, u64, usize); 10] = [
     ("issue dates", 0, 0),
     ("sheets", 105, 40_000),
     ("records put", 106, 12_000),
+    ("calendars", 108, 12_000),
     ("states that no call gave", 107, 20_000),
 ];
 
@@ -50,6 +52,7 @@ fn expected(kind: &str) -> &'static [u16] {
         "sets" => &[0, 10, 11, 33],
         "dates" | "issue dates" => &[0, 27],
         "sheets" => &[0, 20, 21, 22, 23, 24, 25, 26, 27, 28, 29, 30, 31, 32],
+        "calendars" => &[0, 20, 21, 22, 23, 24, 25, 26, 27, 28, 29, 30, 31, 32, 33, 50, 51, 53],
         // The end is none of them: it comes only after a drug.
         "states that no call gave" => &[0, 20, 21, 22, 23, 24, 32, 33, 34],
         // 25 is no record's: each has its fields.
@@ -60,6 +63,14 @@ fn expected(kind: &str) -> &'static [u16] {
 /// How many questions of a kind must have been answered with 0, where the papers say it: the 127 rows of table 8, oral and external, read and written.
 fn taken(kind: &str) -> Option<usize> {
     (kind == "event rows").then_some(4 * 127)
+}
+
+/// What the questions of a kind must have met besides.
+fn expected_to_meet(kind: &str) -> &'static [Met] {
+    match kind {
+        "calendars" => calendars::MEETS,
+        _ => &[],
+    }
 }
 
 fn main() -> ExitCode {
@@ -145,10 +156,11 @@ fn compare_kind(
             "issue dates" => sheets::issue_dates(&mut ask),
             "sheets" => sheets::sheets(&mut random, &sheets, count, &mut ask),
             "records put" => sheets::puts(&mut random, &sheets, count, &mut ask),
+            "calendars" => calendars::calendars(&mut random, &sheets, count, &mut ask),
             _ => states::states(&mut random, &sheets, count, &mut ask),
         }
     });
-    let (mut tally, seen) = compare_answers(kind, &mut child, receive)?;
+    let (mut tally, Seen { numbers, met }) = compare_answers(kind, &mut child, receive)?;
     if asking.join().is_err() {
         println!("{kind}: the questions stopped early");
         tally.faults += 1;
@@ -158,33 +170,49 @@ fn compare_kind(
         println!("{kind}: the answerer ended with {ended}");
         tally.faults += 1;
     }
-    let missed: Vec<_> = expected(kind).iter().filter(|&number| !seen.contains_key(number)).collect();
+    let missed: Vec<_> = expected(kind).iter().filter(|&number| !numbers.contains_key(number)).collect();
     if !missed.is_empty() {
         println!("{kind}: no question was answered with {missed:?}");
         tally.faults += 1;
     }
-    if let Some(count) = taken(kind).filter(|count| seen.get(&0) != Some(count)) {
-        println!("{kind}: {} questions were answered with 0, not {count}", seen.get(&0).unwrap_or(&0));
+    let missed: Vec<_> = expected_to_meet(kind).iter().filter(|&what| !met.contains_key(what)).collect();
+    if !missed.is_empty() {
+        println!("{kind}: no question met {missed:?}");
         tally.faults += 1;
     }
-    let seen: Vec<_> = seen.iter().map(|(n, times)| format!("{n}: {times}")).collect();
+    if let Some(count) = taken(kind).filter(|count| numbers.get(&0) != Some(count)) {
+        println!("{kind}: {} questions were answered with 0, not {count}", numbers.get(&0).unwrap_or(&0));
+        tally.faults += 1;
+    }
+    let numbers: Vec<_> = numbers.iter().map(|(n, times)| format!("{n}: {times}")).collect();
     println!(
         "{kind}: {} questions (seed {seed}), {} faults, {:.1} s; answers by number {}",
         tally.questions,
         tally.faults,
         start.elapsed().as_secs_f64(),
-        seen.join(", ")
+        numbers.join(", ")
     );
+    let mut lines = BTreeMap::<u16, Vec<String>>::new();
+    for ((number, what), times) in met {
+        lines.entry(number).or_default().push(format!("{what}: {times}"));
+    }
+    for (number, what) in lines {
+        println!("{kind}: questions answered with {number} by what they meet, {}", what.join(", "));
+    }
     Ok(tally)
 }
 
-/// How often each number was given.
-type Seen = BTreeMap<u16, usize>;
+/// How often each number was given, and what else was met.
+#[derive(Default)]
+struct Seen {
+    numbers: BTreeMap<u16, usize>,
+    met: BTreeMap<Met, usize>,
+}
 
 fn compare_answers(kind: &str, child: &mut Child, asked: Receiver<Question>) -> io::Result<(Tally, Seen)> {
     let mut from = BufReader::with_capacity(1 << 16, child.stdout.take().ok_or(io::ErrorKind::BrokenPipe)?);
     let mut tally = Tally { questions: 0, faults: 0 };
-    let mut seen = Seen::new();
+    let mut seen = Seen::default();
     let mut theirs = Vec::new();
     for question in asked {
         tally.questions += 1;
@@ -195,7 +223,10 @@ fn compare_answers(kind: &str, child: &mut Child, asked: Receiver<Question>) -> 
             break;
         }
         for number in answer::numbers_given(&question, &ours) {
-            *seen.entry(number).or_default() += 1;
+            *seen.numbers.entry(number).or_default() += 1;
+        }
+        for what in answer::met(&question, &ours) {
+            *seen.met.entry(what).or_default() += 1;
         }
         if ours != theirs {
             tally.faults += 1;

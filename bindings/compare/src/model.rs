@@ -2,6 +2,7 @@
 
 use std::ops::Range;
 
+use independent::calendar;
 use independent::date::{self, Date, Era, Style, Wish};
 use independent::days::{self, DaySet};
 use independent::file::{FileRefusal, Reader};
@@ -359,6 +360,14 @@ pub fn sheet_refusal(r: &FileRefusal) -> (u16, SheetRefusal) {
 /// `yws_sheet_check`.
 pub fn sheet_check(file: &[u8]) -> Result<u64, (u16, SheetRefusal)> {
     independent::file::check(file).map(|lines| lines as u64).map_err(|r| sheet_refusal(&r))
+}
+
+/// `yws_calendar`: the number, and what is said of a refused sheet. The start is a year, a month and a day.
+pub fn calendar(file: &[u8], rp: u32, start: [u32; 3], days: u32, doses: &mut [u8]) -> (u16, SheetRefusal) {
+    match calendar::fill(file, rp, start, days, doses) {
+        Ok(()) => (0, [0; 4]),
+        Err(refusal) => sheet_refusal(&refusal),
+    }
 }
 
 /// A record of a file as its numbers.

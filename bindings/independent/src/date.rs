@@ -44,7 +44,7 @@ pub enum Era {
 }
 
 /// Year, month and day, which compare as days follow each other.
-type Day = (u16, u8, u8);
+pub(crate) type Day = (u16, u8, u8);
 
 // "Meiji starts on 1868-01-01 (ours), Taisho on 1912-07-30, Showa on 1926-12-25, Heisei on 1989-01-08,
 // Reiwa on 2019-05-01; each ends the day before the next, Reiwa with 2099 (ours)."
@@ -110,10 +110,15 @@ pub(crate) const fn longest_month(month: u8) -> u8 {
     }
 }
 
-/// "From 1868 to 2099 … The day must exist (Gregorian)."
-fn exists((year, month, day): Day) -> bool {
+/// The last day of a month (Gregorian).
+pub(crate) const fn last_of_month(year: u16, month: u8) -> u8 {
     let leap = year % 4 == 0 && (year % 100 != 0 || year % 400 == 0);
-    let last = longest_month(month) - u8::from(month == 2 && !leap);
+    longest_month(month) - (month == 2 && !leap) as u8
+}
+
+/// "From 1868 to 2099 … The day must exist (Gregorian)."
+pub(crate) fn exists((year, month, day): Day) -> bool {
+    let last = last_of_month(year, month);
     (1868..=2099).contains(&year) && (1..=12).contains(&month) && (1..=last).contains(&day)
 }
 

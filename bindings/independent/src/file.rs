@@ -31,7 +31,7 @@ pub struct FileRefusal {
 }
 
 impl FileRefusal {
-    fn new(number: u16, at: usize) -> Self {
+    pub(crate) fn new(number: u16, at: usize) -> Self {
         FileRefusal { number, at, field: 0, code: 0, place: 0 }
     }
 

@@ -1,10 +1,12 @@
 //! Prescription sheets, read and written: usage codes of sixteen characters, supplementary codes of
-//! eight, runs of date codes, and the whole file.
+//! eight, runs of date codes, and the whole file; and the doses of an RP, day by day.
 //!
 //! Every rule quotes or cites document 01, "What we are building and its rules", or document 02,
-//! "Customer requests after the base", where it changes a rule of 01. Numbers of refusals are those of
-//! 01's table "Numbers a caller gets back". Characters, codes and fields count from 1, offsets from 0.
+//! "Customer requests after the base", where it changes a rule of 01 or adds one. Numbers of refusals
+//! are those of 01's table "Numbers a caller gets back", and those that 02 adds. Characters, codes and
+//! fields count from 1, offsets from 0.
 
+pub mod calendar;
 pub mod date;
 pub mod days;
 pub mod file;

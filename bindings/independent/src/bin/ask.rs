@@ -1,12 +1,14 @@
 //! Answers questions about codes and sheets from standard input.
 //!
 //! `ask codes`: a question a line; `ask sheet`: `ok N` or the refusal of the sheet; `ask rewrite`:
-//! the sheet, read and written again.
+//! the sheet, read and written again; `ask calendar`: after a line `RP YEAR MONTH DAY DAYS ROOM` the
+//! sheet, and the doses of each day or the refusal.
 
 use std::fmt::Write as _;
 use std::io::{self, Read, Write};
 use std::process::ExitCode;
 
+use independent::calendar;
 use independent::date::{self, Date, Wish};
 use independent::days::{self, DaySet};
 use independent::file::{self, FileRefusal, Reader, LONGEST};
@@ -26,8 +28,9 @@ fn main() -> ExitCode {
         Some("codes") => answer_codes(&input),
         Some("sheet") => answer_sheet(&input),
         Some("rewrite") => rewrite(&input),
+        Some("calendar") => answer_calendar(&input),
         _ => {
-            eprintln!("usage: ask codes|sheet|rewrite");
+            eprintln!("usage: ask codes|sheet|rewrite|calendar");
             return ExitCode::FAILURE;
         }
     };
@@ -232,8 +235,43 @@ fn answer_sheet(sheet: &[u8]) -> Vec<u8> {
     .into_bytes()
 }
 
-/// The number, "then `offset` (20 to 22), or `record` and, where there is one, `field`".
+/// The doses of each day, or the refusal.
+fn answer_calendar(input: &[u8]) -> Vec<u8> {
+    let end = input.iter().position(|&c| c == b'\n').unwrap_or(input.len());
+    let sheet = input.get(end + 1..).unwrap_or_default();
+    match asked_of(&input[..end]) {
+        Some(([rp, year, month, day, days], room)) => {
+            let mut output = vec![0; room];
+            match calendar::fill(sheet, rp, [year, month, day], days, &mut output) {
+                Ok(()) => {
+                    let doses = output[..days as usize].iter().map(|doses| format!(" {doses}"));
+                    format!("doses{}\n", doses.collect::<String>())
+                }
+                Err(refusal) => show_file_refusal(refusal),
+            }
+        }
+        None => "unknown question\n".into(),
+    }
+    .into_bytes()
+}
+
+/// RP, year, month, day and days; then the room.
+fn asked_of(line: &[u8]) -> Option<([u32; 5], usize)> {
+    let mut words = line.split(|&c| c == b' ');
+    let mut asked = [0; 5];
+    for asked in &mut asked {
+        *asked = number(words.next()?, u32::MAX as usize)? as u32;
+    }
+    let room = number(words.next()?, 1 << 20)?;
+    words.next().is_none().then_some((asked, room))
+}
+
+/// The number, "then `offset` (20 to 22), or `record` and, where there is one, `field`"; of 33 and from 50 on, where no
+/// place is named, the number alone.
 fn show_file_refusal(r: FileRefusal) -> String {
+    if r.number > 32 {
+        return format!("refused {}\n", r.number);
+    }
     let place = if r.number <= 22 { "offset" } else { "record" };
     let mut text = format!("refused {} {place} {}", r.number, r.at);
     if r.field > 0 {
