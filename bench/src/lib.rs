@@ -1,4 +1,4 @@
-//! Times reading, checking and writing sheets: the library beside other implementations, in one run.
+//! Times checking, reading and writing sheets and telling their calendars: the library beside other implementations, in one run.
 
 use std::env;
 use std::fs;
@@ -15,7 +15,7 @@ mod seen;
 mod sheets;
 
 use seen::seen;
-use sheets::{Parts, MOST};
+use sheets::{Asked, Parts, MOST, SUPPLEMENTS};
 
 /// What is timed.
 #[derive(Clone, Copy, PartialEq, Eq)]
@@ -26,6 +26,8 @@ enum Work {
     Read,
     /// Every record read and written again.
     Write,
+    /// The doses of an RP on each of 366 days.
+    Calendar(Asked),
 }
 
 const WORKS: [(Work, &str); 3] = [(Work::Check, "check"), (Work::Read, "read"), (Work::Write, "write")];
@@ -38,14 +40,34 @@ struct Side {
     check: fn(&[u8]) -> Answer,
     read: fn(&[u8]) -> Answer,
     write: fn(&[u8], &mut [u8]) -> Answer,
+    calendar: fn(&[u8], Asked, &mut [u8]) -> Answer,
 }
 
-/// The library, the independent implementation, and the pipeline where it is there. The pipeline can check nothing: it reads instead.
+/// The library, the independent implementation, and the pipeline where it is there. The pipeline can check nothing: it reads instead. Nor has it
+/// calendars, and is not asked for any.
 const SIDES: &[Side] = &[
-    Side { name: "library", check: library::check, read: library::read, write: library::write },
-    Side { name: "independent", check: other::check, read: other::read, write: other::write },
+    Side {
+        name: "library",
+        check: library::check,
+        read: library::read,
+        write: library::write,
+        calendar: library::calendar,
+    },
+    Side {
+        name: "independent",
+        check: other::check,
+        read: other::read,
+        write: other::write,
+        calendar: other::calendar,
+    },
     #[cfg(feature = "pipeline")]
-    Side { name: "pipeline", check: pipeline::read, read: pipeline::read, write: pipeline::write },
+    Side {
+        name: "pipeline",
+        check: pipeline::read,
+        read: pipeline::read,
+        write: pipeline::write,
+        calendar: |_, _, _| Err(0),
+    },
 ];
 
 impl Side {
@@ -56,6 +78,7 @@ impl Side {
             Work::Check => (self.check)(sheet),
             Work::Read => (self.read)(sheet),
             Work::Write => (self.write)(sheet, out),
+            Work::Calendar(asked) => (self.calendar)(sheet, asked, out),
         }
     }
 }
@@ -116,6 +139,18 @@ fn agree(sheet: &[u8]) -> bool {
         && (SIDES[0].work(Work::Check, sheet, &mut []).is_err() || ours == theirs)
 }
 
+/// Do they tell the same calendar?
+fn agree_on(sheet: &[u8], asked: Asked) -> bool {
+    let (mut ours, mut theirs) = (vec![0; MOST], vec![0; MOST]);
+    let answer = SIDES[0].work(Work::Calendar(asked), sheet, &mut ours);
+    answer.is_ok() && answer == SIDES[1].work(Work::Calendar(asked), sheet, &mut theirs) && ours == theirs
+}
+
+fn differ(sheet: &[u8]) -> io::Error {
+    println!("the library and the independent implementation differ about {:?}", sheet);
+    io::Error::new(io::ErrorKind::Other, "they differ")
+}
+
 /// One line of the table.
 fn line(what: &str, of: &str, bytes: usize, ns: &[f64]) {
     print!("{:<7}{:<8}{:>10}", what, of, bytes);
@@ -149,8 +184,7 @@ fn table(folder: &Path) -> io::Result<()> {
     let batch = sheets::batch(&corpus, &built, 10_000);
     let refused = batch.iter().filter(|sheet| other::check(sheet).is_err()).count();
     if let Some(sheet) = built.iter().flatten().chain(&batch).find(|sheet| !agree(sheet)) {
-        println!("the library and the independent implementation differ about {:?}", sheet);
-        return Err(io::Error::new(io::ErrorKind::Other, "they differ"));
+        return Err(differ(sheet));
     }
     println!("Nanoseconds per byte, medians of {} rounds; {} sheets of each size.", ROUNDS, EACH);
     println!("Batch: {} sheets of mixed sizes, {} of them refused; {} rounds.", batch.len(), refused, BATCH_ROUNDS);
@@ -182,6 +216,46 @@ fn table(folder: &Path) -> io::Result<()> {
         println!();
     }
     singles(&built, &corpus);
+    calendars(&parts)
+}
+
+/// Calendars of 366 days beside checking the same sheets, of the library and of the independent implementation, in nanoseconds per byte.
+fn calendars(parts: &Parts) -> io::Result<()> {
+    let (most, size) = SIZES[1];
+    println!();
+    println!(
+        "A calendar of 366 days for the last RP of a sheet of {}, beside checking it, in nanoseconds per byte.",
+        size
+    );
+    print!("{:<15}{:>10}", "Its supplement", "bytes");
+    for side in &SIDES[..2] {
+        print!("{:>13}{:>10}{:>7}", side.name, "calendar", "ratio");
+    }
+    println!("{:>15}", "library/indep.");
+    for supplement in SUPPLEMENTS {
+        let sheets = parts.calendars(most, EACH, supplement);
+        let sheets: Vec<_> = sheets.into_iter().map(|sheet| (Asked::of(&sheet), sheet)).collect();
+        if let Some((_, sheet)) = sheets.iter().find(|(asked, sheet)| !agree(sheet) || !agree_on(sheet, *asked)) {
+            return Err(differ(sheet));
+        }
+        let bytes: usize = sheets.iter().map(|(_, sheet)| sheet.len()).sum();
+        let times = BYTES / (EACH * most);
+        let mut out = vec![0; MOST];
+        // Of each side the check and the calendar.
+        let ns = medians(4, ROUNDS, bytes * times, |which| {
+            for _ in 0..times {
+                for (asked, sheet) in &sheets {
+                    let work = if which % 2 == 0 { Work::Check } else { Work::Calendar(*asked) };
+                    seen(SIDES[which / 2].work(work, seen(sheet), &mut out)).ok();
+                }
+            }
+        });
+        print!("{:<15}{:>10}", supplement, bytes / EACH);
+        for side in ns.chunks(2) {
+            print!("{:>13.2}{:>10.2}{:>7.2}", side[0], side[1], side[1] / side[0]);
+        }
+        println!("{:>15.2}", ns[1] / ns[3]);
+    }
     Ok(())
 }
 
@@ -259,12 +333,13 @@ fn bench_counted(side: &Side, work: Work, sheet: &[u8], out: &mut [u8]) -> Answe
 fn one(side: &str, work: &str, sheet: &Path) -> io::Result<()> {
     let sheet = fs::read(sheet)?;
     let mut out = vec![0; MOST];
+    let calendar = (Work::Calendar(Asked::of(&sheet)), "calendar");
     for side in SIDES.iter().filter(|known| known.name == side) {
-        for (work, _) in WORKS.iter().filter(|known| known.1 == work) {
+        for (work, _) in WORKS.into_iter().chain([calendar]).filter(|known| known.1 == work) {
             // Once before, so that what is done once in a process is not counted.
-            seen(side.work(*work, &sheet, &mut out)).ok();
+            seen(side.work(work, &sheet, &mut out)).ok();
             bench_mark(1);
-            let answer = bench_counted(side, *work, &sheet, &mut out);
+            let answer = bench_counted(side, work, &sheet, &mut out);
             bench_mark(2);
             println!("{:?}", answer);
         }
@@ -272,15 +347,24 @@ fn one(side: &str, work: &str, sheet: &Path) -> io::Result<()> {
     Ok(())
 }
 
-/// The program: `CORPUS` for the tables, `sheet CORPUS BYTES` for a sheet of that size on standard output, `one SIDE WORK FILE`.
+/// The first sheet of that size on standard output, or the first whose last RP has a supplement for its calendar.
+fn sheet(folder: &str, bytes: &str, supplement: Option<&str>) -> io::Result<()> {
+    let corpus = sheets::corpus(Path::new(folder))?;
+    let (parts, most) = (Parts::of(&corpus), bytes.parse().unwrap_or(MOST));
+    let sheet = supplement.map_or_else(|| parts.sheet(most, 0), |supplement| parts.calendar(most, 0, supplement));
+    io::stdout().write_all(&sheet)
+}
+
+/// The program: `CORPUS` for the tables, `sheet CORPUS BYTES` for a sheet of that size on standard output, `sheet CORPUS BYTES SUPPLEMENT` for one
+/// whose last RP has that supplement, `one SIDE WORK FILE`.
 #[no_mangle]
 pub extern "C" fn bench_run() -> c_int {
     let given: Vec<String> = env::args().skip(1).collect();
     let given: Vec<&str> = given.iter().map(String::as_str).collect();
     let done = match given[..] {
         [folder] => table(Path::new(folder)),
-        ["sheet", folder, bytes] => sheets::corpus(Path::new(folder))
-            .and_then(|corpus| io::stdout().write_all(&Parts::of(&corpus).sheet(bytes.parse().unwrap_or(MOST), 0))),
+        ["sheet", folder, bytes] => sheet(folder, bytes, None),
+        ["sheet", folder, bytes, supplement] => sheet(folder, bytes, Some(supplement)),
         ["one", side, work, sheet] => one(side, work, Path::new(sheet)),
         _ => Err(io::Error::new(io::ErrorKind::Other, "bench/README.md says how this is started")),
     };

@@ -1,6 +1,7 @@
 //! The library, through its C interface.
 
 use crate::seen::see;
+use crate::sheets::Asked;
 use yawsimbel_sys::*;
 
 /// How many lines a sheet has, or its refusal's number.
@@ -55,6 +56,19 @@ pub fn write(file: &[u8], out: &mut [u8]) -> Result<usize, u16> {
     number |= unsafe { yws_writer_close(start, room, &mut state, &mut own) };
     match number {
         0 => Ok(state[0] as usize),
+        number => Err(number),
+    }
+}
+
+/// The longest calendar of an RP; its days, or the refusal's number.
+pub fn calendar(file: &[u8], asked: Asked, out: &mut [u8]) -> Result<usize, u16> {
+    let (mut refusal, [year, month, day]) = ([0; REFUSAL], asked.start);
+    let (from, length, to, room) = (file.as_ptr(), file.len() as u64, out.as_mut_ptr(), out.len() as u64);
+    // SAFETY: as in `check`, and `out` is a slice of that length.
+    let number =
+        unsafe { yws_calendar(from, length, asked.rp, year, month, day, DAYS_MOST as u32, to, room, &mut refusal) };
+    match number {
+        0 => Ok(DAYS_MOST),
         number => Err(number),
     }
 }

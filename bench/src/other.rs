@@ -1,6 +1,8 @@
 //! The independent implementation.
 
 use crate::seen::see;
+use crate::sheets::Asked;
+use independent::calendar::{self, MOST_DAYS};
 use independent::file::{self, Reader};
 use independent::writer::Writer;
 
@@ -27,6 +29,12 @@ pub fn write(file: &[u8], out: &mut [u8]) -> Result<usize, u16> {
         writer.put(&record).map_err(|refusal| refusal.number())?;
     }
     writer.close().map_err(|refusal| refusal.number())
+}
+
+/// The longest calendar of an RP; its days, or the refusal's number.
+pub fn calendar(file: &[u8], asked: Asked, out: &mut [u8]) -> Result<usize, u16> {
+    let filled = calendar::fill(file, asked.rp, asked.start, MOST_DAYS as u32, out);
+    filled.map(|()| MOST_DAYS).map_err(|refusal| refusal.number)
 }
 
 /// Opens a sheet only.

@@ -1,6 +1,9 @@
 //! The sheets that are timed, built from the corpus; every run builds the same.
 
 use crate::other;
+use independent::days::{self, DaySet};
+use independent::file::Reader;
+use independent::record::Record;
 use std::fs;
 use std::io;
 use std::path::Path;
@@ -50,6 +53,14 @@ fn renumbered(line: &[u8], rp: usize) -> Vec<u8> {
     fields.join(&b',')
 }
 
+/// Puts the lines of an RP with another RP number at the end of a sheet.
+fn put<T: AsRef<[u8]>>(sheet: &mut Vec<u8>, lines: &[T], rp: usize) {
+    for line in lines {
+        sheet.extend(renumbered(line.as_ref(), rp));
+        sheet.extend_from_slice(b"\r\n");
+    }
+}
+
 /// What sheets are built of: the lines before the first RP, and the lines of each RP.
 pub struct Parts<'a> {
     head: Vec<&'a [u8]>,
@@ -84,6 +95,11 @@ impl<'a> Parts<'a> {
     /// A sheet of at most `most` bytes: the head, then RPs from the one numbered `from` on, around and around, with rising numbers. One that
     /// would make the sheet too long or refused is passed over; none that fits is left out at the end.
     pub fn sheet(&self, most: usize, from: usize) -> Vec<u8> {
+        self.ending(most, from, &[])
+    }
+
+    /// Such a sheet, but the last RP is of these lines, where there are any.
+    fn ending(&self, most: usize, from: usize, last: &[Vec<u8>]) -> Vec<u8> {
         let mut sheet = Vec::new();
         for line in &self.head {
             sheet.extend_from_slice(line);
@@ -92,14 +108,12 @@ impl<'a> Parts<'a> {
         let (mut rp, mut passed, mut at) = (1, 0, from);
         while passed < self.rps.len() {
             let mut longer = sheet.clone();
-            for line in &self.rps[at % self.rps.len()] {
-                longer.extend(renumbered(line, rp));
-                longer.extend_from_slice(b"\r\n");
-            }
-            longer.push(0x1a);
+            put(&mut longer, &self.rps[at % self.rps.len()], rp);
+            let mut whole = longer.clone();
+            put(&mut whole, last, rp + 1);
+            whole.push(0x1a);
             at += 1;
-            if longer.len() <= most && other::check(&longer).is_ok() {
-                longer.pop();
+            if whole.len() <= most && other::check(&whole).is_ok() {
                 sheet = longer;
                 rp += 1;
                 passed = 0;
@@ -107,14 +121,76 @@ impl<'a> Parts<'a> {
                 passed += 1;
             }
         }
+        put(&mut sheet, last, rp);
         sheet.push(0x1a);
         sheet
+    }
+
+    /// Such a sheet whose last RP has that supplement.
+    pub fn calendar(&self, most: usize, from: usize, supplement: &str) -> Vec<u8> {
+        self.ending(most, from, &rp_with(supplement))
     }
 
     /// `count` sheets of that size, each begun at another RP.
     pub fn sheets(&self, most: usize, count: usize) -> Vec<Vec<u8>> {
         (0..count).map(|i| self.sheet(most, i * self.rps.len() / count)).collect()
     }
+
+    /// The same, each with that supplement in its last RP.
+    pub fn calendars(&self, most: usize, count: usize, supplement: &str) -> Vec<Vec<u8>> {
+        (0..count).map(|i| self.calendar(most, i * self.rps.len() / count, supplement)).collect()
+    }
+}
+
+/// What is asked of a calendar: the last RP of a sheet, from the day of issue on.
+#[derive(Clone, Copy, PartialEq, Eq)]
+pub struct Asked {
+    pub rp: u32,
+    pub start: [u32; 3],
+}
+
+impl Asked {
+    /// Of a sheet that is taken.
+    pub fn of(sheet: &[u8]) -> Asked {
+        let mut asked = Asked { rp: 0, start: [0; 3] };
+        for record in Reader::open(sheet).into_iter().flatten().map_while(Result::ok) {
+            match record {
+                Record::Issue(date) => asked.start = [date.year.into(), date.month.into(), date.day.into()],
+                Record::Rp(rp) => asked.rp = rp.rp.0.into(),
+                _ => {}
+            }
+        }
+        asked
+    }
+}
+
+/// What the last RP has as its supplement where its calendar is asked for. `longest` is the longest run: every day of every month by its name.
+pub const SUPPLEMENTS: [&str; 5] = ["none", "I", "W", "D", "longest"];
+
+/// The supplementary codes of that name.
+fn codes(supplement: &str) -> Vec<u8> {
+    match supplement {
+        "I" => b"I1100000".to_vec(),
+        "W" => b"W0100100".to_vec(),
+        "D" => b"D0148BFID0MPT000".to_vec(),
+        "longest" => {
+            let days = [0, 31, 29, 31, 30, 31, 30, 31, 31, 30, 31, 30, 31].map(|last| ((1u64 << last) - 1) as u32);
+            let mut run = vec![0; 67 * 8];
+            days::write_run(1, &DaySet(days), &mut run).ok();
+            run
+        }
+        _ => Vec::new(),
+    }
+}
+
+/// The lines of an RP with that supplement.
+fn rp_with(supplement: &str) -> Vec<Vec<u8>> {
+    let mut lines = vec![b"101,1,1,,14".to_vec(), b"111,1,2,1013044400000000,AFTER MEALS,3".to_vec()];
+    for (i, code) in codes(supplement).chunks(8).enumerate() {
+        lines.push([format!("181,1,{},8,DAYS,", i + 1).as_bytes(), code, b","].concat());
+    }
+    lines.push(b"201,1,1,1,1,,TABLET A,3,1,TAB".to_vec());
+    lines
 }
 
 /// `count` sheets of mixed sizes: of the corpus, and built; one in four has a byte that was drawn at a place that was drawn, so that many are
