@@ -1,4 +1,5 @@
 // Reads a question for a dose calendar and a sheet from standard input, and prints the doses of each day, or why there are none.
+#![tactic(auto)]
 
 // Room for the longest question, the longest sheet, and one byte more by which a longer one is known.
 fn main() {

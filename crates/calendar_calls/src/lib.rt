@@ -1,6 +1,8 @@
 // The call that tells an RP's dose calendar, on numbers and bytes; include/yawsimbel.h has its layout. A refusal leaves the lent output as it was. It is
 // not among `capi`'s, so that the static library has it as a module of its own: the reader's code is laid out in each by itself, and who tells no
 // calendar links nothing of this one.
+#![tactic(auto)]
+
 ghost use Rattle.std.specs.Prelude.{length};
 ghost use Rattle.day.specs.Day.{day as day_by};
 ghost use Rattle.dose_calendar.specs.Calendar.{calendar_of};

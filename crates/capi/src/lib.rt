@@ -1,6 +1,8 @@
 // The public operations for C and Rust, on numbers and bytes. include/yawsimbel.h has the layout of each array. A refusal leaves every lent
 // array as it was, but for the one that says where and why. A static library has the calls of one crate: these hand on to `code_calls`,
 // `sheet_calls` and `writer_calls`.
+#![tactic(auto)]
+
 ghost use Rattle.cells.specs.Writing.{Writes};
 ghost use Rattle.usage.specs.Usage.{read_usage};
 ghost use Rattle.usage.specs.declared.Instruction.{Instruction};

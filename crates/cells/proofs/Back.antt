@@ -3,15 +3,15 @@
 use Prim.Native.Nat.{ℕ, zero, suc, ◌+◌, ◌<◌}
 use Prim.Native.Char.{code}
 use Prim.Native.String.{String, [] as nil, ◌∷◌ as cons}
-use mathlib.Core.Path.{◌≡◌, refl, ◌∙◌, sym, ap}
-use mathlib.Core.Bool.{Bool, true, false, cond}
+use mathlib.Core.Path.{◌≡◌, refl, sym}
+use mathlib.Core.Bool.{Bool, true, false}
 use mathlib.Core.List.{List, [], ◌∷◌, ◌++◌, append_assoc}
 use native.Mathlib.Omega.{arith}
-use borrow.Author.Tests.{eqb-true, eqb-false}
-use lib.Dec.{ltb, leb, eqb}
+use borrow.Author.Tests.{eqb-true}
+use lib.Dec.{eqb}
 use lib.ListN.{get_or}
 use Rattle.cells.specs.Text.{among, index, at}
-use Rattle.cells.specs.Test.{Test, test, fault, first, Answer, took, refused, judge}
+use Rattle.cells.specs.Test.{Test, test, first, took, judge}
 use Rattle.cells.specs.Cells.{Cell, set, rising, upto, rising_upto, tests, cells}
 use Rattle.cells.proofs.Split.{split}
 

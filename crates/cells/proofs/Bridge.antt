@@ -6,11 +6,11 @@ use mathlib.Core.Path.{◌≡◌, refl, ◌∙◌, sym, ap}
 use mathlib.Core.Bool.{Bool, true, false, cond}
 use mathlib.Core.List.{List, [], ◌∷◌, ◌++◌}
 use native.Mathlib.Omega.{arith}
-use borrow.Author.Tests.{eqb-true, eqb-false, eq-eqb, ne_eqb, lt-ltb, le-ltb, leb-true, leb-false, ltb-true, ltb-false}
+use borrow.Author.Tests.{eqb-true, eq-eqb, ne_eqb, lt-ltb, le-ltb, leb-true, leb-false}
 use lib.Dec.{ltb, leb, eqb}
 use lib.ListN.{length, get_or, length-append}
 use lib.Seq.{get_or-append_seam, append_snoc}
-use Rattle.cells.specs.Text.{among, index, digits, digit}
+use Rattle.cells.specs.Text.{among, index, digit}
 use Rattle.cells.specs.Test.{Test, test, fault, first}
 use Rattle.cells.specs.Cells.{Cell, set, rising, upto, rising_upto, tests, cells}
 use Rattle.cells.specs.Code.Mask.{value, has, wrong, unused, wrong_at, scan, either}

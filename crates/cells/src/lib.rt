@@ -1,11 +1,13 @@
 // Characters of codes, sets of them, the first fault of a row of characters, tested from left to right, and codes compared.
+#![tactic(auto)]
+
 ghost use Rattle.std.specs.Prelude.{◌≡◌, ◌+◌, ◌-◌, ◌<◌, ◌≤◌, length};
 ghost use Rattle.cells.specs.Text.{letter as letter_of};
 ghost use Rattle.cells.specs.Same.{Compares};
 ghost use Rattle.cells.specs.Code.Mask.{value as value_of, has as has_of, wrong as wrong_of, unused as unused_of, wrong_at, scan};
 
 // One of document 01's numbers, and a place; the number 0 says that nothing is at fault.
-#[derive(Drop)]
+#[derive(Clone, Copy)]
 pub struct Fault {
     pub number: u16,
     pub place: usize,

@@ -1,5 +1,7 @@
 // The calls on codes, runs, sets of days and dates, on numbers and bytes. A refusal leaves every lent array as it was, but for the one that says
 // where and why.
+#![tactic(auto)]
+
 ghost use Rattle.std.specs.Prelude.{◌≡◌};
 ghost use Rattle.cells.specs.Writing.{Writes};
 ghost use Rattle.usage.specs.Usage.{read_usage};

@@ -100,7 +100,7 @@ pub fn after(at: usize) -> usize {
 }
 
 // A number, and where it ends. A number of more than six digits is held as one of seven.
-#[derive(Drop)]
+#[derive(Clone, Copy)]
 pub struct Held {
     pub value: usize,
     pub next: usize,
@@ -183,7 +183,7 @@ pub fn room(value: usize) -> usize {
 }
 
 // A set as far as it has been read.
-#[derive(Drop)]
+#[derive(Clone, Copy)]
 pub struct Asked {
     pub state: u8,
     pub at: usize,

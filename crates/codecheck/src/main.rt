@@ -3,6 +3,8 @@
 //   again CODE                                  a code of sixteen or eight characters, read and written again
 //   run MONTH CODES      set MONTH SET ROOM     SET is CELL:DAY,DAY/CELL:DAY.. or -
 //   date YEAR MONTH DAY STYLE                   STYLE is none, era or western
+#![tactic(auto)]
+
 mod ask;
 mod say;
 

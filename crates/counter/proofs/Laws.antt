@@ -5,9 +5,6 @@ use mathlib.Core.Path.{◌≡◌, refl}
 use mathlib.Core.Bool.{Bool, true, false}
 use mathlib.Core.List.{List, [], ◌∷◌, map}
 use Rattle.counter.specs.Counter.{rises, next_drug, next_supplement}
-use Rattle.counter.specs.declared.RpNumber.{RpNumber}
-use Rattle.counter.specs.declared.DrugSerial.{DrugSerial}
-use Rattle.counter.specs.declared.SupplementSerial.{SupplementSerial}
 
 -- Two numbers, the one before first, and whether the second may stand.
 pub record Row : Type 0 where

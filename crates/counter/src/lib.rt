@@ -1,17 +1,19 @@
 // RP number, drug serial and supplement serial: three separate counters, each a type of its own, so that none is compared with another.
+#![tactic(auto)]
+
 ghost use Rattle.std.specs.Prelude.{◌≡◌, ◌+◌, eqb};
 ghost use Rattle.counter.specs.Counter.{rises as rises_of, carries as carries_of, next_drug, next_supplement};
 
 // 1 to 999; 0 before the first.
-#[derive(Drop)]
+#[derive(Clone, Copy)]
 pub struct RpNumber(pub u16);
 
 // 1 to 99; 0 before the first of an RP.
-#[derive(Drop)]
+#[derive(Clone, Copy)]
 pub struct DrugSerial(pub u16);
 
 // 1 to 99; 0 before the first of an RP.
-#[derive(Drop)]
+#[derive(Clone, Copy)]
 pub struct SupplementSerial(pub u16);
 
 // Is a number one more than the last one?

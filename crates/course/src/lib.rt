@@ -1,4 +1,6 @@
 // What is kept of one RP, and the doses of its days from a start date on.
+#![tactic(auto)]
+
 ghost use Rattle.std.specs.Prelude.{◌≡◌, ◌&&◌, ◌++◌, ◌≤◌, length, take, drop};
 ghost use Rattle.std.proofs.lemmas.List.Edits.{sets};
 ghost use Rattle.day.specs.Day.{day as day_by, Exists, weekday as weekday_of};
@@ -12,14 +14,14 @@ use record::Refusal;
 use supplement::Week;
 
 // A calendar is filled, or why not.
-#[derive(Drop)]
+#[derive(Clone, Copy)]
 pub enum Answer {
     Filled,
     Refused(Refusal),
 }
 
 // On which days there is a dose.
-#[derive(Drop)]
+#[derive(Clone, Copy)]
 pub enum Rule {
     Every,
     // I: days on, days off.
@@ -33,7 +35,7 @@ pub enum Rule {
 }
 
 // What the records so far say of the RP: the issue date, whether it begins, whether its usage fixes how often a day, and how often; its rule.
-#[derive(Drop)]
+#[derive(Clone, Copy)]
 pub struct Course {
     pub issue: Day,
     pub begins: bool,

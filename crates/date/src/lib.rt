@@ -1,4 +1,6 @@
 // Dates: western and era style, read, kept, made and printed.
+#![tactic(auto)]
+
 ghost use Rattle.std.specs.Prelude.{◌≡◌, true, ◌+◌, ◌≤◌, length};
 ghost use Rattle.number.specs.Number.{none as no_day, figures as figures_of};
 ghost use Rattle.date.specs.Date.{leap as leap_of, last_day, exists as exists_of, era_adds, day_number, in_force, in_style, in_its_era, is_date, said, held as held_of, two as two_of, read_date, make_western, make_era, make_date};
@@ -7,7 +9,7 @@ ghost use Rattle.date.specs.Print.{figure as figure_of, in_western, in_era, prin
 use cells::Fault;
 
 // A day, and the style that it is written in: era 0 is western style, 1 to 5 are the eras. The year is the western one.
-#[derive(Drop)]
+#[derive(Clone, Copy)]
 pub struct Date {
     pub era: u8,
     pub year: u16,
@@ -16,14 +18,14 @@ pub struct Date {
 }
 
 // A day, or why there is none.
-#[derive(Drop)]
+#[derive(Clone, Copy)]
 pub enum Made {
     Day(Date),
     None(Fault),
 }
 
 // A date's characters, and 0 bytes after them; the length is 0 where the date is none.
-#[derive(Drop)]
+#[derive(Clone, Copy)]
 pub struct Text {
     pub length: u8,
     pub bytes: [u8; 8],

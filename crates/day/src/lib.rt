@@ -1,8 +1,10 @@
 // Days of the calendar: the day after one, the days between two, the weekday.
+#![tactic(auto)]
+
 ghost use Rattle.std.specs.Prelude.{◌≡◌, ◌*◌, ◌≤◌};
 ghost use Rattle.day.specs.Day.{next as next_of, months, years, count as count_of, between as between_of, weekday as weekday_of};
 
-#[derive(Drop)]
+#[derive(Clone, Copy)]
 pub struct Day {
     pub year: u16,
     pub month: u8,

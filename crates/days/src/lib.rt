@@ -1,4 +1,6 @@
 // Sets of days, and the runs of date codes that name them, read.
+#![tactic(auto)]
+
 ghost use Rattle.std.specs.Prelude.{◌≡◌, [], ◌+◌, ◌%◌, ◌^◌, ◌≤◌, ◌<◌, length, get_or, take, drop, set};
 ghost use Rattle.supplement.specs.Supplement.{read_supplement, said as said_of};
 ghost use Rattle.days.specs.Run.{distance as distance_of, stop, stopped, answers_in, codes_of, set_of, refuses, concluded, read_run};
@@ -8,14 +10,14 @@ ghost use Rattle.days.specs.Code.Walk.{six_of, Told, HasText, Dated, may_follow,
 use supplement::{Days, Reading};
 
 // Thirteen masks, cell 0 for every month and cell m for month m; in a mask day d is bit d - 1.
-#[derive(Drop)]
+#[derive(Clone, Copy)]
 pub struct DaySet {
     pub cells: [u32; 13],
 }
 
 // The number is 0, and the days are those of the run; or a number of document 01 with its place, and for a code's own refusal the
 // code's number (else 0), and no days.
-#[derive(Drop)]
+#[derive(Clone, Copy)]
 pub struct Run {
     pub number: u16,
     pub place: usize,
@@ -25,7 +27,7 @@ pub struct Run {
 
 // A code of a run as numbers. `refusal` and `place` are the code's own, 0 where it reads; `count` is the number of its days, 0 where it is
 // no D code or where no code stands.
-#[derive(Drop)]
+#[derive(Clone, Copy)]
 struct Date {
     refusal: u16,
     place: usize,
@@ -37,7 +39,7 @@ struct Date {
 }
 
 // What stops a run at a code; the number 0 says that nothing does.
-#[derive(Drop)]
+#[derive(Clone, Copy)]
 struct Halt {
     number: u16,
     place: usize,

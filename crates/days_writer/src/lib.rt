@@ -1,4 +1,6 @@
 // Writes sets of days: the run of date codes that reads as the set.
+#![tactic(auto)]
+
 ghost use Rattle.std.specs.Prelude.{◌≡◌, ◌+◌, ◌*◌, ◌≤◌, ◌<◌, length, drop, set};
 ghost use Rattle.std.proofs.lemmas.List.Edits.{sets};
 ghost use Rattle.days.specs.Code.Good.{column, code_bytes};
@@ -10,7 +12,7 @@ use cells::Fault;
 use days::DaySet;
 
 // How many codes were written, or the refusal.
-#[derive(Drop)]
+#[derive(Clone, Copy)]
 pub enum Wrote {
     Codes(usize),
     Refused(Fault),

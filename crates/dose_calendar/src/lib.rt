@@ -1,4 +1,6 @@
 // The dose calendar of one RP of a sheet, for the packing machine: how many doses each day has, from a start date on.
+#![tactic(auto)]
+
 ghost use Rattle.std.specs.Prelude.{◌≡◌, false, [], ◌∷◌, length, replicate};
 ghost use Rattle.usage.specs.Times.{fixes_times};
 ghost use Rattle.days.specs.Run.{upto0};
@@ -20,7 +22,7 @@ use supplement::{Days, Supplement};
 use usage::Instruction;
 
 // The course of a sheet that is taken, or its refusal.
-#[derive(Drop)]
+#[derive(Clone, Copy)]
 enum Gathered {
     Whole(Course),
     Refused(Refusal),

@@ -1,4 +1,6 @@
 // A question for a dose calendar, `RP YEAR MONTH DAY DAYS ROOM` on a line with the sheet behind it, answered in a line on standard output.
+#![tactic(auto)]
+
 ghost use Rattle.std.specs.Prelude.{◌≡◌, ◌≤◌};
 ghost use Rattle.reader.specs.Said.{said_check};
 ghost use Rattle.reader.specs.File.{check_file};
@@ -25,7 +27,7 @@ pub fn answer(s: &[u8]) -> Checked
 
 // A number, where it ends, and whether there is one. One of more than nine digits, leading zeros apart, is held as 4,294,967,295, which is too large for
 // whatever it is.
-#[derive(Drop)]
+#[derive(Clone, Copy)]
 struct Held {
     value: u32,
     next: usize,

@@ -1,4 +1,6 @@
 // A prescription sheet being written: the writer, carrying the lent buffer along with its place.
+#![tactic(auto)]
+
 ghost use Rattle.std.specs.Prelude.{◌≡◌};
 ghost use Rattle.writer.specs.Writer.{open_buffer, put_record, close_buffer};
 ghost use Rattle.draft.specs.Draft.{left};

@@ -1,4 +1,6 @@
 // A record as the parts of the line that it is written as, and what the reader would say of it.
+#![tactic(auto)]
+
 ghost use Rattle.std.specs.Prelude.{◌≡◌, [], ◌≤◌, length};
 ghost use Rattle.text.specs.Lent.{no_field, text_or};
 ghost use Rattle.laid.specs.Laid.{laid};
@@ -20,7 +22,7 @@ use record::{
 use row::Rules;
 
 // The number with which the reader would refuse a record, 0 where it takes it; and how many parts its line has.
-#[derive(Drop)]
+#[derive(Clone, Copy)]
 pub struct Entered {
     pub wrong: u16,
     pub count: usize,

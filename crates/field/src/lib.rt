@@ -1,4 +1,6 @@
 // One field of a record: whether it may be empty, what form it must have, and what it is read as.
+#![tactic(auto)]
+
 ghost use Rattle.std.specs.Prelude.{◌<◌, ◌≤◌, ◌≡◌};
 ghost use Rattle.cells.specs.Text.{among};
 ghost use Rattle.cells.specs.Test.{fault};
@@ -51,7 +53,7 @@ pub const DRUG_SERIAL: u8 = 11;
 pub const SUPPLEMENT_SERIAL: u8 = 12;
 
 // What a record's table says of a field: may it be empty, its form, and the bounds of its number, or in `hi` its byte maximum.
-#[derive(Drop)]
+#[derive(Clone, Copy)]
 pub struct Rule {
     pub need: u8,
     pub form: u8,
@@ -60,7 +62,7 @@ pub struct Rule {
 }
 
 // What the records before leave for a field: the month of record 51, the RP's number, its last serials and its supplements.
-#[derive(Drop)]
+#[derive(Clone, Copy)]
 pub struct Before {
     pub month: u8,
     pub rp: RpNumber,
@@ -71,7 +73,7 @@ pub struct Before {
 
 // What is wrong, the number 0 and what is read where nothing is; the fault's place is where in the field, of a code its character. `code` is for 29
 // the code's own number.
-#[derive(Drop)]
+#[derive(Clone, Copy)]
 pub struct Field {
     pub fault: Fault,
     pub code: u16,

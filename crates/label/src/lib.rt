@@ -8,6 +8,8 @@
 //
 // and an empty line. A name of more than 40 bytes has a line of its own, and the amount and the unit stand on the next; a drug without a name
 // shows its code.
+#![tactic(auto)]
+
 ghost use Rattle.std.specs.Prelude.{◌≡◌, ◌<◌, take};
 ghost use Rattle.reader.specs.Said.{said_check};
 ghost use Rattle.reader.specs.File.{check_file};
@@ -25,7 +27,7 @@ const NAME: usize = 40;
 const AMOUNT: usize = 13;
 
 // What the records so far leave for the label: whether one is begun, the issue date, and how many bytes of date codes wait.
-#[derive(Drop)]
+#[derive(Clone, Copy)]
 struct Bag {
     begun: bool,
     issue: Date,

@@ -1,4 +1,5 @@
 // Reads a sheet from standard input and prints its bag labels, or the refusal.
+#![tactic(auto)]
 
 // Room for the longest sheet, and for one byte more by which a longer one is known.
 fn main() {

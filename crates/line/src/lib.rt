@@ -1,4 +1,6 @@
 // Lines and fields: the frame of a file, where a field ends, and the fields of a line.
+#![tactic(auto)]
+
 ghost use Rattle.std.specs.Prelude.{◌≡◌, true};
 ghost use Rattle.cells.specs.Test.{fault};
 ghost use Rattle.line.specs.Frame.{plain as plain_of, in_line, next as next_of, frame_fault};
@@ -139,7 +141,7 @@ fn ends(b: u8) -> bool
 }
 
 // The offset of the first comma or CR from an offset on, or the length.
-pub fn field_end_lem(s: &[u8], at: usize) -> usize
+pub fn field_end(s: &[u8], at: usize) -> usize
     ensures { result ≡ field_end s.now at }
 {
     if s.len() < at {
@@ -175,13 +177,13 @@ pub fn nth_field(s: &[u8], at: usize, n: usize) -> &[u8]
     let mut from = at;
     let mut k: usize = 1;
     while k < n {
-        let end = field_end_lem(s, from);
+        let end = field_end(s, from);
         if line_ends(s, end) {
             return &s[0..0];
         }
         from = end + 1;
         k += 1;
     }
-    let to = field_end_lem(s, from);
+    let to = field_end(s, from);
     &s[from..to]
 }

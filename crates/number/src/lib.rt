@@ -1,4 +1,6 @@
 // Numbers and amounts as a field writes them.
+#![tactic(auto)]
+
 ghost use Rattle.std.specs.Prelude.{◌≡◌, true, ◌-◌, ◌^◌, ◌<◌, ◌≤◌, length, replicate};
 ghost use Rattle.number.specs.Number.{figure as figure_of, figures as figures_of, value as value_of, shortest as shortest_of, said, none as no_number, read_number};
 ghost use Rattle.number.specs.Amount.{before, fraction as fraction_of, read_amount};
@@ -7,7 +9,7 @@ ghost use Rattle.number.specs.Code.Parts.{whole_number, within as within_of, aft
 use cells::Fault;
 
 // A field's value, or why it is none of the form and range asked for.
-#[derive(Drop)]
+#[derive(Clone, Copy)]
 pub enum Number {
     Is(u64),
     Not(Fault),

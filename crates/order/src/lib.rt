@@ -1,5 +1,7 @@
 // Which record number may follow which in a prescription file. Record numbers rise through the header, through an RP and through a drug, so
 // the last number alone says how far the file has come; it is 0 before the first record.
+#![tactic(auto)]
+
 ghost use Rattle.std.specs.Prelude.{◌≡◌};
 ghost use Rattle.order.specs.Order.{among, records};
 ghost use Rattle.order.specs.Code.Known.{in_header, in_rp};

@@ -1,4 +1,6 @@
 // Numbers and codes as plain numbers, for callers in C: what a number of an array is held as, and the numbers of codes.
+#![tactic(auto)]
+
 ghost use Rattle.std.specs.Prelude.{◌≡◌, get_or};
 ghost use Rattle.std.proofs.lemmas.List.Edits.{sets};
 ghost use Rattle.plain.specs.Held.{byte as byte_of, half as half_of, word as word_of, flag as flag_of};

@@ -1,4 +1,6 @@
 // Values as the fields that they are written as, by value.
+#![tactic(auto)]
+
 ghost use Rattle.std.specs.Prelude.{◌≡◌, ◌∷◌, ◌+◌, ◌<◌, ◌≤◌, length};
 ghost use Rattle.number.specs.Print.{print_number, decimals, print_amount};
 ghost use Rattle.text.specs.Lent.{no_field};
@@ -10,7 +12,7 @@ use supplement::Supplement;
 use usage::Instruction;
 
 // At most 24 characters: how many they are, they, and 0 bytes after them.
-#[derive(Drop)]
+#[derive(Clone, Copy)]
 pub struct Piece {
     pub length: usize,
     pub bytes: [u8; 24],

@@ -1,4 +1,6 @@
 // The reader of a prescription file: opened once over the whole file, then one call hands out one record.
+#![tactic(auto)]
+
 ghost use Rattle.std.specs.Prelude.{◌≡◌};
 ghost use Rattle.record_line.specs.Line.{refusal as refusal_of};
 ghost use Rattle.reader.specs.Open.{version_line};
@@ -12,7 +14,7 @@ use record::{Answer, Passed, Record, Refusal, Sofar};
 
 // Where the reader is in the file, and what the records before leave. A file that was refused on opening keeps its number here (20, 21 or 22;
 // 0 where it is open), and the offset in `at`. Any other number is that of a reader that was never opened.
-#[derive(Drop)]
+#[derive(Clone, Copy)]
 pub struct State {
     pub number: u16,
     pub at: usize,
@@ -20,7 +22,7 @@ pub struct State {
 }
 
 // What a call hands out.
-#[derive(Drop)]
+#[derive(Clone, Copy)]
 pub enum Handed {
     Record(Record),
     Refused(Refusal),
@@ -28,7 +30,7 @@ pub enum Handed {
 }
 
 // An answer and the state to go on with.
-#[derive(Drop)]
+#[derive(Clone, Copy)]
 pub struct Step {
     pub next: Handed,
     pub state: State,
@@ -176,7 +178,7 @@ pub fn next(s: &[u8], t: State) -> Step
 // ---- a file checked, with no record made
 
 // As a call, but for the record.
-#[derive(Drop)]
+#[derive(Clone, Copy)]
 enum Gone {
     On(State),
     Refused(Refusal),
@@ -218,7 +220,7 @@ fn pass(s: &[u8], t: State) -> Gone
 }
 
 // How many records a file has with its version line, or its refusal.
-#[derive(Drop)]
+#[derive(Clone, Copy)]
 pub enum Checked {
     Records(usize),
     Refused(Refusal),

@@ -1,4 +1,6 @@
 // The records of a prescription file, and what a record leaves for those after it.
+#![tactic(auto)]
+
 ghost use Rattle.std.specs.Prelude.{◌≡◌};
 ghost use Rattle.record.specs.Record.{text_at, with_drug, with_code, issued, begun, supplied, start as start_of, leaves as leaves_of, number_of, after as after_of};
 
@@ -11,32 +13,32 @@ use supplement::Supplement;
 use usage::Instruction;
 
 // A text as its place in the file: from its first byte to the one after its last.
-#[derive(Drop)]
+#[derive(Clone, Copy)]
 pub struct Place {
     pub from: usize,
     pub to: usize,
 }
 
-#[derive(Drop)]
+#[derive(Clone, Copy)]
 pub enum UsageCode {
     Is(Instruction),
     Empty,
 }
 
-#[derive(Drop)]
+#[derive(Clone, Copy)]
 pub enum SupplementCode {
     Is(Supplement),
     Empty,
 }
 
 // The date of issue.
-#[derive(Drop)]
+#[derive(Clone, Copy)]
 pub struct Record51 {
     pub date: Date,
 }
 
 // An RP begins: its dosage form, the form's name, its quantity.
-#[derive(Drop)]
+#[derive(Clone, Copy)]
 pub struct Record101 {
     pub rp: RpNumber,
     pub form: u16,
@@ -45,7 +47,7 @@ pub struct Record101 {
 }
 
 // Its usage. A number that may be empty is 0 then, here and below.
-#[derive(Drop)]
+#[derive(Clone, Copy)]
 pub struct Record111 {
     pub rp: RpNumber,
     pub kind: u16,
@@ -55,7 +57,7 @@ pub struct Record111 {
 }
 
 // A supplement to it.
-#[derive(Drop)]
+#[derive(Clone, Copy)]
 pub struct Record181 {
     pub rp: RpNumber,
     pub serial: SupplementSerial,
@@ -66,7 +68,7 @@ pub struct Record181 {
 }
 
 // A drug: `coding` is the code kind; its amount is in hundred-thousandths.
-#[derive(Drop)]
+#[derive(Clone, Copy)]
 pub struct Record201 {
     pub rp: RpNumber,
     pub serial: DrugSerial,
@@ -80,13 +82,13 @@ pub struct Record201 {
 }
 
 // Any other record: its number, and its fields with the commas between them.
-#[derive(Drop)]
+#[derive(Clone, Copy)]
 pub struct Kept {
     pub number: u16,
     pub fields: Place,
 }
 
-#[derive(Drop)]
+#[derive(Clone, Copy)]
 pub enum Record {
     Issue(Record51),
     Rp(Record101),
@@ -98,7 +100,7 @@ pub enum Record {
 
 // What is wrong, one of document 01's numbers, and where in the field, of a code its character, else 0; the offset of the record's first byte (for 20 to
 // 22, of the byte at fault); the field, counted from 1, or 0; for 29 the code's own number.
-#[derive(Drop)]
+#[derive(Clone, Copy)]
 pub struct Refusal {
     pub fault: Fault,
     pub at: usize,
@@ -107,20 +109,20 @@ pub struct Refusal {
 }
 
 // What the records before leave: for the order the last one's number, and what fields need of them.
-#[derive(Drop)]
+#[derive(Clone, Copy)]
 pub struct Sofar {
     pub last: u16,
     pub before: Before,
 }
 
-#[derive(Drop)]
+#[derive(Clone, Copy)]
 pub enum Answer {
     Took(Record),
     Refused(Refusal),
 }
 
 // What a line is read as, where the next one begins, and what the records up to it leave; after a refusal 0, and what they left before it.
-#[derive(Drop)]
+#[derive(Clone, Copy)]
 pub struct Line {
     pub answer: Answer,
     pub next: usize,
@@ -128,13 +130,13 @@ pub struct Line {
 }
 
 // A line that is passed, with no record made of it: what the records up to it leave, and where the next line begins.
-#[derive(Drop)]
+#[derive(Clone, Copy)]
 pub struct Onward {
     pub sofar: Sofar,
     pub next: usize,
 }
 
-#[derive(Drop)]
+#[derive(Clone, Copy)]
 pub enum Passed {
     On(Onward),
     Refused(Refusal),

@@ -1,4 +1,6 @@
 // A line of a prescription file as its record: the fields as what they are read as, and what the record leaves.
+#![tactic(auto)]
+
 ghost use Rattle.std.specs.Prelude.{◌≡◌, ℕ, ◌+◌, ◌≤◌, ◌<◌, List, length};
 ghost use Rattle.date.specs.Date.{read_date};
 ghost use Rattle.usage.specs.Usage.{read_usage};
@@ -270,7 +272,7 @@ fn record_number(f: &[u8]) -> u16
 }
 
 // What a line begins with: the refusal's number, or 0 and the record's number, and where its first field begins.
-#[derive(Drop)]
+#[derive(Clone, Copy)]
 struct Head {
     refusal: u16,
     number: u16,

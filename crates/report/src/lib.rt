@@ -1,4 +1,6 @@
 // The line that tells what a sheet is read as, on standard output.
+#![tactic(auto)]
+
 ghost use Rattle.std.specs.Prelude.{◌≡◌};
 ghost use Rattle.reader.specs.Said.{said_check};
 ghost use Rattle.reader.specs.File.{check_file};

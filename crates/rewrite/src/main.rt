@@ -1,5 +1,6 @@
 // Reads a sheet from standard input, writes it again record by record and prints the bytes that were written; of a sheet that is refused it
 // prints the refusal.
+#![tactic(auto)]
 
 // Room for the longest sheet, and for one byte more by which a longer one is known.
 fn main() {

@@ -1,4 +1,6 @@
 // A sheet that is taken, written again: the reader and the writer, one after the other.
+#![tactic(auto)]
+
 ghost use Rattle.std.specs.Prelude.{◌≡◌, ◌++◌, ◌≤◌, length, drop};
 ghost use Rattle.reader.specs.File.{whole, read_file};
 ghost use Rattle.rewriter.specs.Rewritten.{rewritten};

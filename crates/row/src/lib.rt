@@ -1,4 +1,6 @@
 // The fields of a record, by document 01's table: how many they are, what each must be, and what each is read as.
+#![tactic(auto)]
+
 ghost use Rattle.std.specs.Prelude.{◌≡◌, true, ◌≤◌, length};
 ghost use Rattle.line.specs.Fields.{nth, fields_at, line_ends};
 ghost use Rattle.cells.specs.Text.{bytes};
@@ -16,7 +18,7 @@ pub const WIDE: usize = 12;
 
 // What is wrong, and in which field, counted from 1 (0 for 25), for 29 with the code's own number; the number 0 where nothing is, and the place after
 // the CR that ends the fields.
-#[derive(Drop)]
+#[derive(Clone, Copy)]
 pub struct Row {
     pub fault: Fault,
     pub field: usize,
@@ -25,7 +27,7 @@ pub struct Row {
 }
 
 // The rules of a record's fields, as many as it has.
-#[derive(Drop)]
+#[derive(Clone, Copy)]
 pub struct Rules {
     pub count: usize,
     pub each: [Rule; WIDE],

@@ -1,4 +1,6 @@
 // The supplements of one RP: one I, W or C, or one run of date codes for the issue month. What a further one is judged by is kept in numbers.
+#![tactic(auto)]
+
 ghost use Rattle.std.specs.Prelude.{◌≡◌, []};
 ghost use Rattle.cells.specs.Text.{among};
 ghost use Rattle.days.specs.Run.{distance, last_of};
@@ -9,7 +11,7 @@ ghost use Rattle.schedule.specs.Kept.{kept, may_join, keep_of, after_date};
 use supplement::{Days, Supplement};
 
 // The letter of the last supplement, 0 where there is none yet; of a date code its month, its last day, and whether it has six days.
-#[derive(Drop)]
+#[derive(Clone, Copy)]
 pub struct Schedule {
     pub letter: u8,
     pub month: u8,

@@ -1,4 +1,6 @@
 // A prescription sheet being read: the reader, carrying the lent file along with its place.
+#![tactic(auto)]
+
 ghost use Rattle.std.specs.Prelude.{◌≡◌};
 ghost use Rattle.record.specs.Record.{text_at};
 ghost use Rattle.reader.specs.Said.{said_next, said};

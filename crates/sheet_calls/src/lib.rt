@@ -1,5 +1,7 @@
 // The calls that check a sheet and read it record by record, on numbers and bytes. A refusal leaves every lent array as it was, but for the one
 // that says where and why.
+#![tactic(auto)]
+
 ghost use Rattle.reader.specs.File.{check_file};
 ghost use Rattle.reader.specs.Reader.{open_file, next_record};
 ghost use Rattle.told.specs.States.{reader_of};

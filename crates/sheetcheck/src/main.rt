@@ -1,4 +1,5 @@
 // Reads a sheet from standard input and prints what it is read as: `ok N`, or the refusal.
+#![tactic(auto)]
 
 // Room for the longest sheet, and for one byte more by which a longer one is known.
 fn main() {

@@ -4,7 +4,7 @@ use reader::Handed;
 use record::{Record, SupplementCode, UsageCode};
 
 // How many codes were written again, and how many of them came out otherwise.
-#[derive(Drop)]
+#[derive(Clone, Copy)]
 pub struct Again {
     pub usage: u64,
     pub supplementary: u64,

@@ -2,6 +2,8 @@
 // A sheet that is taken is written again too, and a line of its own tells whether that gave the same bytes; each of its codes is written again
 // by itself, and a last line tells how many came out otherwise. After the word `labels` a name asks for the sheet's bag labels instead, and after
 // the word `calendar` for the dose calendar that the file's first line asks of the sheet behind it.
+#![tactic(auto)]
+
 mod codes;
 
 ghost use Rattle.std.specs.Prelude.{◌≡◌, true, ◌≤◌, ◌<◌, length};
@@ -53,7 +55,7 @@ fn check_each(names: &[u8]) {
 }
 
 // What a line asks of the file that it names.
-#[derive(Drop)]
+#[derive(Clone, Copy)]
 enum Asked {
     Sheet,
     Labels,

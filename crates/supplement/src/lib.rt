@@ -1,4 +1,6 @@
 // Supplementary codes: eight characters that say on which days, how often or how much a medicine is taken.
+#![tactic(auto)]
+
 ghost use Rattle.std.specs.Prelude.{◌≡◌, ◌+◌, ◌-◌, ◌^◌, ◌<◌, ◌≤◌, length, get_or, [], ◌∷◌, ◌++◌, not};
 ghost use Rattle.cells.specs.Text.{among, digit};
 ghost use Rattle.cells.specs.Test.{test, first, judge};
@@ -10,7 +12,7 @@ ghost use Rattle.supplement.specs.Code.Read.{rule_of_week, day_count, told, with
 use cells::Fault;
 
 // The days of a week, 1 for a day that is meant and 0 for one that is not.
-#[derive(Drop)]
+#[derive(Clone, Copy)]
 pub struct Week {
     pub sunday: u8,
     pub monday: u8,
@@ -22,7 +24,7 @@ pub struct Week {
 }
 
 // One to six days of a month, rising, and 0 for each that is left over.
-#[derive(Drop)]
+#[derive(Clone, Copy)]
 pub struct Days {
     pub d1: u8,
     pub d2: u8,
@@ -33,7 +35,7 @@ pub struct Days {
 }
 
 // What a supplementary code says; what its letter does not name is 0.
-#[derive(Drop)]
+#[derive(Clone, Copy)]
 pub struct Supplement {
     // The code's first character: I, W, D, C or V.
     pub letter: u8,
@@ -54,14 +56,14 @@ pub struct Supplement {
     pub places: u8,
 }
 
-#[derive(Drop)]
+#[derive(Clone, Copy)]
 pub enum Reading {
     Taken(Supplement),
     Refused(Fault),
 }
 
 // What has been seen of an amount's columns: none, a 0 alone, other whole digits, the point, decimals, an N.
-#[derive(Drop)]
+#[derive(Clone, Copy)]
 enum Seen {
     Nothing,
     Lone,
@@ -72,7 +74,7 @@ enum Seen {
 }
 
 // What the columns of an amount read as: the first fault, and up to there the digits as a number and the places after the point.
-#[derive(Drop)]
+#[derive(Clone, Copy)]
 struct Amount {
     fault: Fault,
     figures: u32,

@@ -1,4 +1,6 @@
 // Writes supplementary codes: the eight characters that read as a record.
+#![tactic(auto)]
+
 ghost use Rattle.std.specs.Prelude.{◌≡◌, ◌+◌, ◌-◌, ◌<◌, ◌≤◌};
 ghost use Rattle.cells.specs.Same.{eqs};
 ghost use Rattle.supplement.specs.Supplement.{said};
@@ -9,7 +11,7 @@ ghost use Rattle.supplement_writer.specs.Print.{width as width_of, whole as whol
 use supplement::{Days, Reading, Supplement, Week};
 
 // The number is 0, and the code the eight characters; or the number is 35, and the code eight 0 bytes.
-#[derive(Drop)]
+#[derive(Clone, Copy)]
 pub struct Written {
     pub number: u16,
     pub code: [u8; 8],

@@ -1,4 +1,6 @@
 // Shift_JIS text: two scanners that call each other over a field's bytes; and a text by its place.
+#![tactic(auto)]
+
 ghost use Rattle.std.specs.Prelude.{◌≡◌, false, ◌&&◌, ◌≤◌, eqb, length, drop};
 ghost use Rattle.text.specs.Text.{single as single_of, lead as lead_of, second as second_of, characters, led, starts, text_upto};
 ghost use Rattle.text.specs.Lent.{text_or};

@@ -1,4 +1,6 @@
 // A state and an answer as plain numbers: what is left in the arrays that a call on a sheet is lent, and what it returns.
+#![tactic(auto)]
+
 ghost use Rattle.std.specs.Prelude.{◌≡◌};
 ghost use Rattle.told.specs.States.{state_numbers, schedule_of, sofar_of, open_of, reader_numbers, reader_of};
 ghost use Rattle.told.specs.Answers.{refused_number, refusal_numbers};

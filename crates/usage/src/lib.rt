@@ -1,4 +1,6 @@
 // Usage codes: sixteen characters that say how and when a medicine is taken or applied.
+#![tactic(auto)]
+
 ghost use Rattle.std.specs.Prelude.{◌≡◌, [], ◌∷◌, ◌<◌, ◌≤◌, min, length};
 ghost use Rattle.cells.specs.Text.{digit as digit_of};
 ghost use Rattle.cells.specs.Test.{test as test_of, first, judge};
@@ -11,7 +13,7 @@ use cells::Fault;
 // Kinds 1 and 6. Bedtime and waking are 1 where they are meant. Kind 1: supper, lunch and breakfast are 0 where they are not meant, else
 // 1 before, 2 just before, 6 during, 3 just after, 4 after, 5 two hours after; the hour is 15 or none. Kind 6, where they are evening,
 // noon and morning: supper and breakfast are 0, 9 or 10 (the character A), lunch is 1 where it is meant. No hour is 24.
-#[derive(Drop)]
+#[derive(Clone, Copy)]
 pub struct Occasions {
     pub bedtime: u8,
     pub supper: u8,
@@ -22,7 +24,7 @@ pub struct Occasions {
 }
 
 // Kind 3: the hours, 0 to 23, rising, and 24 for each that is left over.
-#[derive(Drop)]
+#[derive(Clone, Copy)]
 pub struct Hours {
     pub h1: u8,
     pub h2: u8,
@@ -35,7 +37,7 @@ pub struct Hours {
 }
 
 // Kind 5: a row of table 8, by the values of its three characters (1 to 9, A as 10, and on), the interval and the limit.
-#[derive(Drop)]
+#[derive(Clone, Copy)]
 pub struct Event {
     pub group: u8,
     pub event: u8,
@@ -45,7 +47,7 @@ pub struct Event {
 }
 
 // What a usage code says. Of what its kind does not name, an hour is 24 and anything else is 0.
-#[derive(Drop)]
+#[derive(Clone, Copy)]
 pub struct Instruction {
     // 1 oral, 2 external.
     pub class: u8,
@@ -63,7 +65,7 @@ pub struct Instruction {
     pub about: u8,
 }
 
-#[derive(Drop)]
+#[derive(Clone, Copy)]
 pub enum Reading {
     Taken(Instruction),
     Refused(Fault),

@@ -1,4 +1,6 @@
 // Writes usage codes: the sixteen characters that read as an instruction.
+#![tactic(auto)]
+
 ghost use Rattle.std.specs.Prelude.{◌≡◌};
 ghost use Rattle.cells.specs.Same.{eqs};
 ghost use Rattle.usage_writer.specs.Writes.{WritesUsage};
@@ -8,7 +10,7 @@ ghost use Rattle.usage_writer.specs.Print.{hour_letter, mark as mark_of, day_tai
 use usage::{Event, Hours, Instruction, Occasions, Reading};
 
 // The number is 0, and the code the sixteen characters; or the number is 35, and the code sixteen 0 bytes.
-#[derive(Drop)]
+#[derive(Clone, Copy)]
 pub struct Written {
     pub number: u16,
     pub code: [u8; 16],

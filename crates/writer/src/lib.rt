@@ -1,4 +1,6 @@
 // The writer of a prescription file: opened over a lent buffer, then one call puts one record, and closing writes the end.
+#![tactic(auto)]
+
 ghost use Rattle.std.specs.Prelude.{◌≡◌, ◌≤◌, length};
 ghost use Rattle.std.proofs.lemmas.List.Edits.{sets};
 ghost use Rattle.cells.specs.Text.{bytes};
@@ -8,7 +10,7 @@ use laid::PARTS;
 use record::{Record, Sofar};
 
 // Where the writer is in the buffer, whether it is closed, and what the records before leave.
-#[derive(Drop)]
+#[derive(Clone, Copy)]
 pub struct State {
     pub at: usize,
     pub closed: bool,
@@ -16,7 +18,7 @@ pub struct State {
 }
 
 // The number 0, or a refusal's number and after 34 the reader's own; and the state to go on with.
-#[derive(Drop)]
+#[derive(Clone, Copy)]
 pub struct Told {
     pub number: u16,
     pub own: u16,

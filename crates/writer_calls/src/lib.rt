@@ -1,5 +1,7 @@
 // The calls that write a sheet record by record, on numbers and bytes. A refusal leaves every lent array as it was, but for the one that says
 // why.
+#![tactic(auto)]
+
 ghost use Rattle.std.specs.Prelude.{◌≡◌};
 ghost use Rattle.writer.specs.Writer.{open_buffer, put_record, close_buffer};
 ghost use Rattle.plain_record.specs.Records.{record_of};

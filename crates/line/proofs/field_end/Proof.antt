@@ -7,8 +7,8 @@ use borrow.Author.Rules.{rules}
 use lib.ListN.{length, drop}
 use Rattle.line.specs.Fields.{field, field_end}
 use Rattle.line.proofs.Steps.{field_none, field_end_lem, field_past, field_here, field_more}
-use Rattle.line.proofs.field_end_lem.Statement.{statement}
-use Rattle.line.proofs.field_end_lem.Tie as tie
+use Rattle.line.proofs.field_end.Statement.{statement}
+use Rattle.line.proofs.field_end.Tie as tie
 
 abbrev invariant-loop : tie.invariant-loop
 invariant-loop s at i₀ i = field_end s at ≡ i + length (field (drop i s))

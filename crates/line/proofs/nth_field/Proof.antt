@@ -52,7 +52,7 @@ returns-2 : tie.Need-returns-2 invariant-loop decreases-loop
 returns-2 c =
     let a = c.before.before.before.before.before.before.before.before.args in
     let l = c.before.before.before.before.before.loop in
-    let e = c.before.before.before.field_end_lem in
+    let e = c.before.before.before.field_end in
     let z : a.n - l.k ≡ a.n - (l.k + 1) + 1 = omega arith in
     sym
     (l.invariant.3 ∙
@@ -63,7 +63,7 @@ add-from : tie.Need-overflow-add-from invariant-loop decreases-loop
 add-from c =
     let a = c.before.before.before.before.before.before.before.args in
     let l = c.before.before.before.before.loop in
-    let e = c.before.before.field_end_lem in
+    let e = c.before.before.field_end in
     let g : e.result + 1 ≤ length a.s.now =
     more_fit a.s.now l.from l.invariant.0 e.result e.ensures (sym c.before.line-ends.ensures ∙ c.if2.false) in
     omega (arith, g)
@@ -72,7 +72,7 @@ add-k : tie.Need-overflow-add-k invariant-loop decreases-loop
 add-k c =
     let a = c.before.before.before.before.before.before.before.args in
     let l = c.before.before.before.before.loop in
-    let e = c.before.before.field_end_lem in
+    let e = c.before.before.field_end in
     let g : e.result + 1 ≤ length a.s.now =
     more_fit a.s.now l.from l.invariant.0 e.result e.ensures (sym c.before.line-ends.ensures ∙ c.if2.false) in
     omega (arith, g, l.invariant.2, l.invariant.0)
@@ -81,7 +81,7 @@ loop-less : tie.Need-loop-smaller invariant-loop decreases-loop
 loop-less c =
     let a = c.before.before.before.before.before.before.before.args in
     let l = c.before.before.before.before.loop in
-    let e = c.before.before.field_end_lem in
+    let e = c.before.before.field_end in
     let g : e.result + 1 ≤ length a.s.now =
     more_fit a.s.now l.from l.invariant.0 e.result e.ensures (sym c.before.line-ends.ensures ∙ c.if2.false) in
     let u : l.from ≤ e.result = after_start a.s.now l.from l.invariant.0 e.result e.ensures in
@@ -91,7 +91,7 @@ loop-again : tie.Need-loop-preserved invariant-loop decreases-loop
 loop-again c =
     let a = c.before.before.before.before.before.before.before.args in
     let l = c.before.before.before.before.loop in
-    let e = c.before.before.field_end_lem in
+    let e = c.before.before.field_end in
     let g : e.result + 1 ≤ length a.s.now =
     more_fit a.s.now l.from l.invariant.0 e.result e.ensures (sym c.before.line-ends.ensures ∙ c.if2.false) in
     let u : l.from ≤ e.result = after_start a.s.now l.from l.invariant.0 e.result e.ensures in

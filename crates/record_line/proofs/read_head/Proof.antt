@@ -29,19 +29,19 @@ field-end-requires c κs = search rules
 sub-record-number : tie.Need-overflow-sub-record-number
 sub-record-number c =
     let a = c.before.before.before.args in
-    let e = c.field_end_lem in
+    let e = c.field_end in
     after_start a.s.now a.at (omega arith) e.result e.ensures
 
 part-record-number-start : tie.Need-slice-bounds-record-number-start
 part-record-number-start c =
     let a = c.before.before.before.args in
-    let e = c.field_end_lem in
+    let e = c.field_end in
     after_start a.s.now a.at (omega arith) e.result e.ensures
 
 part-record-number-end : tie.Need-slice-bounds-record-number-end
 part-record-number-end c =
     let a = c.before.before.before.args in
-    let e = c.field_end_lem in
+    let e = c.field_end in
     before_end a.s.now a.at (omega arith) e.result e.ensures
 
 record-number-requires : tie.Need-record-number-requires
@@ -56,7 +56,7 @@ head-with-requires-2 c κs = search rules
 returns-2 : tie.Need-returns-2
 returns-2 c =
     let a = c.before.before.before.before.before.before.before.before.args in
-    let e = c.before.before.before.before.before.field_end_lem in
+    let e = c.before.before.before.before.before.field_end in
     let n = c.before.before.before.record-number in
     let g : n.result ≡ number_in (read_number 1 999 (slice a.at e.result a.s.now)) =
     n.ensures ∙
@@ -74,7 +74,7 @@ head-with-requires-3 c κs = search rules
 returns-3 : tie.Need-returns-3
 returns-3 c =
     let a = c.before.before.before.before.before.before.before.before.before.before.args in
-    let e = c.before.before.before.before.before.before.before.field_end_lem in
+    let e = c.before.before.before.before.before.before.before.field_end in
     let n = c.before.before.before.before.before.record-number in
     let g : n.result ≡ number_in (read_number 1 999 (slice a.at e.result a.s.now)) =
     n.ensures ∙
@@ -87,7 +87,7 @@ returns-3 c =
 add-head-with : tie.Need-overflow-add-head-with
 add-head-with c =
     let a = c.before.before.before.before.before.before.before.before.before.args in
-    let e = c.before.before.before.before.before.before.field_end_lem in
+    let e = c.before.before.before.before.before.before.field_end in
     let f : e.result + 1 ≤ length a.s.now =
     more_fit a.s.now a.at (omega arith) e.result e.ensures (sym c.before.line-ends.ensures ∙ c.if3.false) in
     omega (arith, f)
@@ -98,7 +98,7 @@ head-with-requires-4 c κs = search rules
 returns-4 : tie.Need-returns-4
 returns-4 c =
     let a = c.before.before.before.before.before.before.before.before.before.before.args in
-    let e = c.before.before.before.before.before.before.before.field_end_lem in
+    let e = c.before.before.before.before.before.before.before.field_end in
     let n = c.before.before.before.before.before.record-number in
     let g : n.result ≡ number_in (read_number 1 999 (slice a.at e.result a.s.now)) =
     n.ensures ∙

@@ -41,14 +41,14 @@ returns : tie.Need-returns invariant-loop decreases-loop
 returns c =
     let a = c.before.before.before.before.before.before.args in
     let l = c.before.before.before.before.loop in
-    let e = c.before.before.field_end_lem in
+    let e = c.before.before.field_end in
     cut_last a.s.now l.from l.invariant.1 l.k l.ends _ _ l.invariant.2 e.result e.ensures (omega arith) (sym c.before.line-ends.ensures ∙ c.if1.true)
 
 add-from : tie.Need-overflow-add-from invariant-loop decreases-loop
 add-from c =
     let a = c.before.before.before.before.before.before.args in
     let l = c.before.before.before.before.loop in
-    let e = c.before.before.field_end_lem in
+    let e = c.before.before.field_end in
     let f : e.result + 1 ≤ length a.s.now =
     more_fit a.s.now l.from l.invariant.1 e.result e.ensures (sym c.before.line-ends.ensures ∙ c.if1.false) in
     omega (arith, f)
@@ -60,7 +60,7 @@ loop-again : tie.Need-loop-preserved invariant-loop decreases-loop
 loop-again c =
     let a = c.before.before.before.before.before.before.args in
     let l = c.before.before.before.before.loop in
-    let e = c.before.before.field_end_lem in
+    let e = c.before.before.field_end in
     let f : e.result + 1 ≤ length a.s.now =
     more_fit a.s.now l.from l.invariant.1 e.result e.ensures (sym c.before.line-ends.ensures ∙ c.if1.false) in
     (omega arith, f, cut_more a.s.now l.from l.invariant.1 l.k l.ends _ _ l.invariant.2 e.result e.ensures (omega arith) (sym c.before.line-ends.ensures ∙ c.if1.false))

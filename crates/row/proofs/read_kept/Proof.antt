@@ -70,21 +70,21 @@ sub_read c =
     let f = c.before in
     let a = f.before.before.before.args in
     let l = f.before.loop in
-    omega (arith, within a.s.now l.from l.invariant.0 f.field_end_lem.result f.field_end_lem.ensures)
+    omega (arith, within a.s.now l.from l.invariant.0 f.field_end.result f.field_end.ensures)
 
 part-read-start : tie.Need-slice-bounds-read-start invariant-loop decreases-loop
 part-read-start c =
     let f = c.before in
     let a = f.before.before.before.args in
     let l = f.before.loop in
-    omega (arith, within a.s.now l.from l.invariant.0 f.field_end_lem.result f.field_end_lem.ensures)
+    omega (arith, within a.s.now l.from l.invariant.0 f.field_end.result f.field_end.ensures)
 
 part-read-end : tie.Need-slice-bounds-read-end invariant-loop decreases-loop
 part-read-end c =
     let f = c.before in
     let a = f.before.before.before.args in
     let l = f.before.loop in
-    omega (arith, within a.s.now l.from l.invariant.0 f.field_end_lem.result f.field_end_lem.ensures)
+    omega (arith, within a.s.now l.from l.invariant.0 f.field_end.result f.field_end.ensures)
 
 read-requires : tie.Need-read-requires invariant-loop decreases-loop
 read-requires c κs = search rules
@@ -100,7 +100,7 @@ returns c =
     let u = c.before.before.before.before.before.kept_Rule in
     let r = c.before.before.before.read in
     c.refused.ensures
-    ∙ sym (wrong_field (context a.b) a.s.now l.from l.invariant.0 f.field_end_lem.result f.field_end_lem.ensures u.result u.ensures r.result r.ensures l.i c.before.if1.true)
+    ∙ sym (wrong_field (context a.b) a.s.now l.from l.invariant.0 f.field_end.result f.field_end.ensures u.result u.ensures r.result r.ensures l.i c.before.if1.true)
     ∙ l.invariant.2
 
 line-ends-requires : tie.Need-line-ends-requires invariant-loop decreases-loop
@@ -111,7 +111,7 @@ add-fine c =
     let f = c.before.before.before.before.before.before.before in
     let a = f.before.before.before.args in
     let l = f.before.loop in
-    omega (arith, within a.s.now l.from l.invariant.0 f.field_end_lem.result f.field_end_lem.ensures)
+    omega (arith, within a.s.now l.from l.invariant.0 f.field_end.result f.field_end.ensures)
 
 fine-requires : tie.Need-fine-requires invariant-loop decreases-loop
 fine-requires c κs = search rules
@@ -126,7 +126,7 @@ returns-2 c =
     let r = c.before.before.before.before.before.read in
     let ends = sym c.before.before.line-ends.ensures ∙ c.before.if2.true in
     c.fine.ensures
-    ∙ sym (last_field (context a.b) a.s.now l.from l.invariant.0 f.field_end_lem.result f.field_end_lem.ensures u.result u.ensures r.result r.ensures l.i c.before.before.before.if1.false ends)
+    ∙ sym (last_field (context a.b) a.s.now l.from l.invariant.0 f.field_end.result f.field_end.ensures u.result u.ensures r.result r.ensures l.i c.before.before.before.if1.false ends)
     ∙ l.invariant.2
 
 add-from : tie.Need-overflow-add-from invariant-loop decreases-loop
@@ -134,21 +134,21 @@ add-from c =
     let f = c.before.before.before.before.before.before.before in
     let a = f.before.before.before.args in
     let l = f.before.loop in
-    omega (arith, within a.s.now l.from l.invariant.0 f.field_end_lem.result f.field_end_lem.ensures, more_fit a.s.now l.from l.invariant.0 f.field_end_lem.result f.field_end_lem.ensures (sym c.before.line-ends.ensures ∙ c.if2.false))
+    omega (arith, within a.s.now l.from l.invariant.0 f.field_end.result f.field_end.ensures, more_fit a.s.now l.from l.invariant.0 f.field_end.result f.field_end.ensures (sym c.before.line-ends.ensures ∙ c.if2.false))
 
 add-i : tie.Need-overflow-add-i invariant-loop decreases-loop
 add-i c =
     let f = c.before.before.before.before.before.before.before in
     let a = f.before.before.before.args in
     let l = f.before.loop in
-    omega (arith, within a.s.now l.from l.invariant.0 f.field_end_lem.result f.field_end_lem.ensures, more_fit a.s.now l.from l.invariant.0 f.field_end_lem.result f.field_end_lem.ensures (sym c.before.line-ends.ensures ∙ c.if2.false))
+    omega (arith, within a.s.now l.from l.invariant.0 f.field_end.result f.field_end.ensures, more_fit a.s.now l.from l.invariant.0 f.field_end.result f.field_end.ensures (sym c.before.line-ends.ensures ∙ c.if2.false))
 
 loop-less : tie.Need-loop-smaller invariant-loop decreases-loop
 loop-less c =
     let f = c.before.before.before.before.before.before.before in
     let a = f.before.before.before.args in
     let l = f.before.loop in
-    omega (arith, within a.s.now l.from l.invariant.0 f.field_end_lem.result f.field_end_lem.ensures, more_fit a.s.now l.from l.invariant.0 f.field_end_lem.result f.field_end_lem.ensures (sym c.before.line-ends.ensures ∙ c.if2.false))
+    omega (arith, within a.s.now l.from l.invariant.0 f.field_end.result f.field_end.ensures, more_fit a.s.now l.from l.invariant.0 f.field_end.result f.field_end.ensures (sym c.before.line-ends.ensures ∙ c.if2.false))
 
 loop-again : tie.Need-loop-preserved invariant-loop decreases-loop
 loop-again c =
@@ -158,9 +158,9 @@ loop-again c =
     let u = c.before.before.before.before.before.before.kept_Rule in
     let r = c.before.before.before.before.read in
     let on = sym c.before.line-ends.ensures ∙ c.if2.false in (
-      more_fit a.s.now l.from l.invariant.0 f.field_end_lem.result f.field_end_lem.ensures on,
-      omega (arith, within a.s.now l.from l.invariant.0 f.field_end_lem.result f.field_end_lem.ensures),
-      sym (next_field (context a.b) a.s.now l.from l.invariant.0 f.field_end_lem.result f.field_end_lem.ensures u.result u.ensures r.result r.ensures l.i c.before.before.if1.false on) ∙ l.invariant.2,
+      more_fit a.s.now l.from l.invariant.0 f.field_end.result f.field_end.ensures on,
+      omega (arith, within a.s.now l.from l.invariant.0 f.field_end.result f.field_end.ensures),
+      sym (next_field (context a.b) a.s.now l.from l.invariant.0 f.field_end.result f.field_end.ensures u.result u.ensures r.result r.ensures l.i c.before.before.if1.false on) ∙ l.invariant.2,
     )
 
 pub read-kept-spec : {M : Type 1} → statement M

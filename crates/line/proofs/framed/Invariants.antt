@@ -1,0 +1,20 @@
+-- The loop, where it has found nothing wrong, leaves the fault of the bytes left as it was; `Pairs` has the steps.
+-- Assumes nothing.
+use Prim.Native.Nat.{ℕ, ◌-◌, ◌≤◌}
+use mathlib.Core.Path.{◌≡◌, ◌∙◌, sym, ap}
+use mathlib.Core.Bool.{Bool, true, ◌||◌, true≢false}
+use native.Mathlib.Omega.{arith}
+use borrow.Author.Rules.{rules}
+use borrow.Author.Tests.{eqb-true}
+use lib.Dec.{eqb}
+use lib.ListN.{length, get_or}
+use Rattle.cells.proofs.Alike.{and_parts}
+use Rattle.line.specs.Frame.{frame_fault}
+use Rattle.line.proofs.Pairs.{fault_after, first_byte, next_byte, last_byte}
+use Rattle.line.proofs.framed.Given as goal
+
+abbrev pub invariant-loop-i : goal.invariant-loop-i
+invariant-loop-i l = (l.i ≤ l.last) × (l.ok ≡ true → (get_or l.s l.last 0 ≡ 0x1a) × (fault_after l.s l.i ≡ frame_fault l.s))
+
+abbrev pub decreases-loop-i : goal.decreases-loop-i
+decreases-loop-i l = l.last - l.i
