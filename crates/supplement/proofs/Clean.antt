@@ -6,7 +6,6 @@ use mathlib.Core.Bool.{true, false}
 use mathlib.Core.List.{List}
 use native.Mathlib.Omega.{arith}
 use borrow.Author.Tests.{ne_eqb}
-use lib.Dec.{eqb}
 use Rattle.cells.specs.Text.{among}
 use Rattle.cells.specs.Test.{first}
 use Rattle.cells.specs.Cells.{char, cells}

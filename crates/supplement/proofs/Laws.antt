@@ -9,7 +9,7 @@ use native.Mathlib.Omega.{arith}
 use borrow.Author.Tests.{eqb-true}
 use lib.Dec.{eqb}
 use lib.ListN.{length, get_or, drop, length-drop}
-use Rattle.cells.specs.Test.{first, fault, Answer, took, refused, judge}
+use Rattle.cells.specs.Test.{first, fault, Answer, refused, judge}
 use Rattle.cells.specs.Text.{among}
 use Rattle.cells.specs.Cells.{char, cells}
 use Rattle.cells.specs.declared.Fault.{Fault}

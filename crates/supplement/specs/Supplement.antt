@@ -1,6 +1,6 @@
 -- Document 01, "Supplementary code". Places are counted from 1, and characters stand in quotes, as there.
 -- Assumes nothing.
-use Rattle.std.specs.Prelude.{ℕ, zero, suc, ◌+◌, ◌-◌, Bool, false, cond, not, List, [], ◌∷◌, ◌++◌, eqb, length, get_or}
+use Rattle.std.specs.Prelude.{ℕ, zero, suc, ◌+◌, Bool, false, cond, not, List, [], ◌∷◌, ◌++◌, eqb, length, get_or}
 use Prim.Native.String.{String}
 use Rattle.cells.specs.Text.{among, digit}
 use Rattle.cells.specs.Test.{Test, test, first, Answer, took, refused, judge}

@@ -1,7 +1,6 @@
 -- What the one pass finds well framed has no fault.
 -- Assumes nothing.
 use mathlib.Core.Path.{sym}
-use borrow.Author.Rules.{rules}
 use Rattle.line.proofs.frame_fault.Goals as goal
 
 pub returns-then-framed : goal.returns-then-framed

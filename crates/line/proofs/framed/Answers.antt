@@ -1,20 +1,18 @@
 -- The loop, where it has found nothing wrong, leaves the fault of the bytes left as it was; `Pairs` has the steps.
 -- Assumes nothing.
-use Prim.Native.Nat.{ℕ, ◌-◌, ◌≤◌}
+use Prim.Native.Nat.{ℕ, ◌-◌}
 use mathlib.Core.Path.{◌≡◌, ◌∙◌, sym, ap}
-use mathlib.Core.Bool.{Bool, true, ◌||◌, true≢false}
+use mathlib.Core.Bool.{Bool, ◌||◌, true≢false}
 use native.Mathlib.Omega.{arith}
-use borrow.Author.Rules.{rules}
 use borrow.Author.Tests.{eqb-true}
 use lib.Dec.{eqb}
 use lib.ListN.{length, get_or}
 use Rattle.cells.proofs.Alike.{and_parts}
-use Rattle.line.specs.Frame.{frame_fault}
-use Rattle.line.proofs.Pairs.{fault_after, first_byte, next_byte, last_byte}
+use Rattle.line.proofs.Pairs.{first_byte, next_byte, last_byte}
 use Rattle.line.proofs.framed.Goals as goal
 
 pub returns-then-s-lt2 : goal.returns-then-s-lt2
-returns-then-s-lt2 c = absurd (true≢false (sym h))
+returns-then-s-lt2 c h = absurd (true≢false (sym h))
 
 pub loop-i-init : goal.loop-i-init
 loop-i-init c =
@@ -28,7 +26,7 @@ loop-i-preserved c =
     (omega arith, λ h. let k = and_parts _ _ h in let v = l.invariant.1 k.0 in (v.0, next_byte s l.i (omega arith) (sym c.may_follow-ok.ensures ∙ k.1) ∙ v.1))
 
 pub returns : goal.returns
-returns c =
+returns c h =
     let s = c.args.s.now in
     let l = c.loop-i in
     let v = l.invariant.1 h in

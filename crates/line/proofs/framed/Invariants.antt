@@ -1,16 +1,11 @@
 -- The loop, where it has found nothing wrong, leaves the fault of the bytes left as it was; `Pairs` has the steps.
 -- Assumes nothing.
-use Prim.Native.Nat.{ℕ, ◌-◌, ◌≤◌}
-use mathlib.Core.Path.{◌≡◌, ◌∙◌, sym, ap}
-use mathlib.Core.Bool.{Bool, true, ◌||◌, true≢false}
-use native.Mathlib.Omega.{arith}
-use borrow.Author.Rules.{rules}
-use borrow.Author.Tests.{eqb-true}
-use lib.Dec.{eqb}
-use lib.ListN.{length, get_or}
-use Rattle.cells.proofs.Alike.{and_parts}
+use Prim.Native.Nat.{◌-◌, ◌≤◌}
+use mathlib.Core.Path.{◌≡◌}
+use mathlib.Core.Bool.{true}
+use lib.ListN.{get_or}
 use Rattle.line.specs.Frame.{frame_fault}
-use Rattle.line.proofs.Pairs.{fault_after, first_byte, next_byte, last_byte}
+use Rattle.line.proofs.Pairs.{fault_after}
 use Rattle.line.proofs.framed.Given as goal
 
 abbrev pub invariant-loop-i : goal.invariant-loop-i

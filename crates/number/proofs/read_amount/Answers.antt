@@ -3,7 +3,6 @@
 use Rattle.number.specs.Code.Parts.{with_fraction}
 use mathlib.Core.Path.{◌∙◌, sym}
 use native.Mathlib.Omega.{arith}
-use borrow.Author.Rules.{rules}
 use lib.Seq.{length-take-le}
 use Rattle.number.proofs.Whole.{place_most, amount_far, amount_badly, amount_well, whole_fits}
 use Rattle.number.proofs.read_amount.Goals as goal

@@ -3,7 +3,6 @@
 use mathlib.Core.Path.{refl, ◌∙◌, sym}
 use mathlib.Core.List.{[]}
 use native.Mathlib.Omega.{arith}
-use borrow.Author.Rules.{rules}
 use Rattle.number.specs.Number.{figures}
 use Rattle.number.proofs.Sizes.{filled}
 use Rattle.number.proofs.Whole.{place_most, fraction_end, fraction_rest}
@@ -22,6 +21,9 @@ overflow_add-from c = omega (arith, place_most c.args.s.now c.args.at c.requires
 
 pub slice_bounds-after_point-count : goal.slice_bounds-after_point-count
 slice_bounds-after_point-count c = omega (arith, place_most c.args.s.now c.args.at c.requires.0)
+
+pub slice_bounds-after_point-start : goal.slice_bounds-after_point-start
+slice_bounds-after_point-start c = omega (arith, place_most c.args.s.now c.args.at c.requires.0)
 
 pub returns : goal.returns
 returns c =
