@@ -3,7 +3,6 @@
 use Rattle.std.specs.Prelude.{ℕ, zero, suc, ◌+◌, ◌-◌, ◌/◌, ◌%◌, ◌^◌, Bool, true, false, cond, ◌&&◌, List, [], ◌∷◌, ◌++◌, map, eqb, leb, ltb, length, get_or, take, drop}
 use Rattle.cells.specs.Test.{Answer, took, refused}
 use Rattle.supplement.specs.Supplement.{read_supplement}
-use Rattle.supplement.specs.declared.Days.{Days}
 use Rattle.supplement.specs.declared.Supplement.{Supplement}
 use Rattle.days.specs.declared.Run.{Run}
 

@@ -6,19 +6,17 @@ use mathlib.Core.Path.{◌≡◌, refl}
 use mathlib.Core.Bool.{Bool, true, false, cond}
 use mathlib.Core.List.{List, [], ◌∷◌, append-nil}
 use native.Mathlib.Omega.{arith}
-use borrow.Author.Tests.{ne_eqb}
 use lib.Dec.{eqb}
 use lib.ListN.{length, get_or}
 use Rattle.cells.specs.Text.{among, index, digit, letter}
 use Rattle.cells.specs.Test.{first}
-use Rattle.cells.specs.Cells.{char, Cell, set, rising_upto, cells}
+use Rattle.cells.specs.Cells.{char, Cell, rising_upto, cells}
 use Rattle.cells.proofs.Split.{split}
 use Rattle.cells.proofs.Alike.{each}
-use Rattle.cells.proofs.Back.{passed, taken, set_at, in_sets}
-use Rattle.supplement.specs.Supplement.{to31, to35, last_day, interval_cells, week_cells, more_days, date_cells, count_cells, amount_cells, rest, tests, says}
-use Rattle.supplement.specs.Amount.{columns, nothing}
+use Rattle.cells.proofs.Back.{set_at, in_sets}
+use Rattle.supplement.specs.Supplement.{to31, to35, last_day, interval_cells, week_cells, more_days, date_cells, count_cells, tests, says}
 use Rattle.supplement_writer.specs.Print.{raw}
-use Rattle.supplement.proofs.Clean.{known, clean, amounts}
+use Rattle.supplement.proofs.Clean.{clean, amounts}
 use Rattle.supplement.proofs.Eight.{tab, spread}
 use Rattle.supplement_writer.proofs.Print.{columns_back}
 

@@ -1,0 +1,9 @@
+-- The rule is what is held of western style.
+-- Assumes nothing.
+use borrow.Author.Rules.{rules}
+use Rattle.date.specs.Date.{make_western}
+use Rattle.date.proofs.Date.western.Goals as goal
+
+pub returns : goal.returns
+unfolding make_western
+returns c = c.held.ensures

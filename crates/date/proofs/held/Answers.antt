@@ -1,0 +1,11 @@
+-- By the test.
+-- Assumes nothing.
+use mathlib.Core.Path.{◌∙◌, sym}
+use borrow.Author.Rules.{rules}
+use Rattle.date.proofs.held.Goals as goal
+
+pub returns-then-is_date : goal.returns-then-is_date
+returns-then-is_date c = rw (sym c.is_date.ensures ∙ c.if-is_date.true)
+
+pub returns : goal.returns
+returns c = rw (sym c.is_date.ensures ∙ c.if-is_date.false) c.none.ensures

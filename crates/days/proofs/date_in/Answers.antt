@@ -1,0 +1,17 @@
+-- What is read as a D code is good; the rest by the cases of a reading.
+-- Assumes nothing.
+use borrow.Author.Tests.{eq-eqb, ne_eqb}
+use Rattle.days.proofs.Walk.{good_read}
+use Rattle.days.proofs.date_in.Goals as goal
+
+pub date_of-requires : goal.date_of-requires
+date_of-requires c = good_read _ _ c.requires c.in-Taken.is c.if-x-eq68.true
+
+pub returns-then-x-eq68 : goal.returns-then-x-eq68
+returns-then-x-eq68 c = rw (c.in-Taken.is, eq-eqb _ _ c.if-x-eq68.true) c.date_of.ensures
+
+pub returns-in-Refused : goal.returns-in-Refused
+returns-in-Refused c = rw c.in-Refused.is c.no_date.ensures
+
+pub returns-else-x-eq68 : goal.returns-else-x-eq68
+returns-else-x-eq68 c = rw (c.in-Taken.is, ne_eqb _ _ c.if-x-eq68.false) c.no_date-in-Taken.ensures
