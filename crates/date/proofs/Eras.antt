@@ -1,7 +1,7 @@
 -- Eras and days. Every day from 1868-01-01 to 2099-12-31 lies in exactly one era, and that is the one in force on it.
 -- Assumes nothing.
 use Prim.Native.Nat.{ℕ, ◌<◌, ◌≤◌}
-use mathlib.Core.Path.{◌≡◌, refl, sym, subst}
+use mathlib.Core.Path.{◌≡◌, refl, sym, subst, ◌∙◌}
 use mathlib.Core.Bool.{true, false, ◌&&◌}
 use mathlib.Core.List.{List, [], ◌∷◌}
 use mathlib.Core.Logic.{◌⊎◌, inl, inr}
@@ -56,7 +56,8 @@ module _ (n : ℕ) where
       split (leb e.first n && ltb n (next es))
       (λ a. let h = and_parts (leb e.first n) _ a in
       g (rw a (inl (refl, leb-true e.first n h.0, ltb-true n (next es) h.1))))
-      (λ a. found_in {P = P} es (λ z. f (rw a z)) (λ l. g (rw a (inr l))))
+      (λ a. let q : lying_in n (e ∷ es) ≡ lying_in n es = rw a refl in
+      found_in {P = P} es (λ z. f (q ∙ z)) (λ l. g (subst (λ (k : ℕ). Lies n k (e ∷ es)) (sym q) (inr l))))
 
   -- and from the first day of the first era on, before all are over, it finds one.
   some_in : (es : List Era) → next es ≤ n → n < next [] → Lies n (lying_in n es) es
@@ -64,7 +65,8 @@ module _ (n : ℕ) where
   some_in (e ∷ es) h o =
       split (ltb n (next es))
       (λ a. rw (le-leb e.first n h, a) (inl (refl, h, ltb-true n (next es) a)))
-      (λ a. rw (le-leb e.first n h, a) (inr (some_in es (ltb-false n (next es) a) o)))
+      (λ a. let q : lying_in n (e ∷ es) ≡ lying_in n es = rw (le-leb e.first n h, a) refl in
+      subst (λ (k : ℕ). Lies n k (e ∷ es)) (sym q) (inr (some_in es (ltb-false n (next es) a) o)))
 
 -- ---- the eras of the rule
 -- The days of the eras, as the numbers YYYYMMDD.

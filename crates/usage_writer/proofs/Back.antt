@@ -93,12 +93,12 @@ value_zero = in_value "0" refl
 
 value_detail : (class c : ℕ) → among (details class) c ≡ true → as_value c ≡ c
 unfolding letter digit index
-value_detail class = in_value (details class) (chosen _ _ (among "1" class) _ _ refl refl)
+value_detail class = in_value (details class) (chosen as_value (λ c. c) (among "1" class) _ _ refl refl)
 
 value_kind : (class detail c : ℕ) → among (kinds class detail) c ≡ true → as_value c ≡ c
 unfolding letter digit index
 value_kind class detail =
-    in_value (kinds class detail) (chosen _ _ (among "1" class) _ _ (chosen _ _ (among "3" detail) _ _ refl refl) refl)
+    in_value (kinds class detail) (chosen as_value (λ c. c) (among "1" class) _ _ (chosen as_value (λ c. c) (among "3" detail) _ _ refl refl) refl)
 
 -- the timing kind is one of six, and its value says which
 one_kind : (class detail c : ℕ) → among (kinds class detail) c ≡ true → among "123567" c ≡ true
@@ -107,7 +107,8 @@ one_kind class detail c h =
     bit _
     (eq-eqb _ _
     (each (λ c. cond (among "123567" c) 1 0) (λ c. 1) (kinds class detail)
-    (chosen _ _ (among "1" class) _ _ (chosen _ _ (among "3" detail) _ _ refl refl) refl) c h))
+    (chosen (λ c. cond (among "123567" c) 1 0) (λ c. 1) (among "1" class) _ _
+    (chosen (λ c. cond (among "123567" c) 1 0) (λ c. 1) (among "3" detail) _ _ refl refl) refl) c h))
 
 -- a timing kind's value is k where its character is the one of x
 abbrev Says : ℕ → String → Type 0

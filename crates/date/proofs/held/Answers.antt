@@ -1,7 +1,6 @@
 -- By the test.
 -- Assumes nothing.
 use mathlib.Core.Path.{◌∙◌, sym}
-use borrow.Author.Rules.{rules}
 use Rattle.date.proofs.held.Goals as goal
 
 pub returns-then-is_date : goal.returns-then-is_date

@@ -3,7 +3,6 @@
 use mathlib.Core.Path.{refl, sym}
 use mathlib.Core.Logic.{inl, inr}
 use native.Mathlib.Omega.{arith}
-use borrow.Author.Rules.{rules}
 use Rattle.date.proofs.Eras.{only, outside}
 use Rattle.date.proofs.in_force.Goals as goal
 

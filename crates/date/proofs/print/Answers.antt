@@ -2,22 +2,20 @@
 -- Assumes nothing.
 use mathlib.Core.Path.{◌∙◌, sym}
 use native.Mathlib.Omega.{arith}
-use borrow.Author.Tests.{not-true, not-false}
-use borrow.Author.Rules.{rules}
 use Rattle.date.proofs.Style.{print_none, print_eight, print_seven, era_year}
 use Rattle.date.proofs.print.Goals as goal
 
 pub returns-then-not-is_date : goal.returns-then-not-is_date
-returns-then-not-is_date c = rw (print_none c.args.t (sym c.is_date.ensures ∙ not-true _ c.if-not-is_date.true))
+returns-then-not-is_date c = rw (print_none c.args.t (sym c.is_date.ensures ∙ c.if-not-is_date.true))
 
 pub returns-then-t-eq0 : goal.returns-then-t-eq0
 returns-then-t-eq0 c =
-    c.print_western.ensures ∙ rw (print_eight c.args.t (sym c.is_date.ensures ∙ not-false _ c.if-not-is_date.false) c.if-t-eq0.true)
+    c.print_western.ensures ∙ rw (print_eight c.args.t (sym c.is_date.ensures ∙ c.if-not-is_date.false) c.if-t-eq0.true)
 
 pub print_era-requires : goal.print_era-requires
 print_era-requires c =
-    omega (arith, (era_year c.args.t (sym c.is_date.ensures ∙ not-false _ c.if-not-is_date.false) c.if-t-eq0.false).from)
+    omega (arith, (era_year c.args.t (sym c.is_date.ensures ∙ c.if-not-is_date.false) c.if-t-eq0.false).from)
 
 pub returns : goal.returns
 returns c =
-    c.print_era.ensures ∙ rw (print_seven c.args.t (sym c.is_date.ensures ∙ not-false _ c.if-not-is_date.false) c.if-t-eq0.false)
+    c.print_era.ensures ∙ rw (print_seven c.args.t (sym c.is_date.ensures ∙ c.if-not-is_date.false) c.if-t-eq0.false)

@@ -5,7 +5,6 @@ use Rattle.date.specs.Date.{date, held}
 use mathlib.Core.Path.{◌∙◌, sym}
 use native.Mathlib.Omega.{arith}
 use lib.ListN.{get_or}
-use borrow.Author.Rules.{rules}
 use Rattle.date.proofs.Digits.{digit_at}
 use Rattle.date.proofs.Style.{read_zero, read_era_lem}
 use Rattle.date.proofs.read_era.Goals as goal

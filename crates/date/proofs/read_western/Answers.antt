@@ -3,7 +3,6 @@
 use Prim.Native.Nat.{◌+◌, ◌*◌}
 use mathlib.Core.Path.{◌∙◌, sym}
 use Rattle.date.specs.Date.{date, held}
-use borrow.Author.Rules.{rules}
 use Rattle.date.proofs.Style.{read_western_lem}
 use Rattle.date.proofs.read_western.Goals as goal
 

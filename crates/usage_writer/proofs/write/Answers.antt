@@ -1,6 +1,5 @@
 -- `usage_writer::write` meets its contract: what is written is read back and compared, by `Writing.written`.
 use mathlib.Core.Path.{◌≡◌, ◌∙◌, sym, subst}
-use borrow.Author.Rules.{rules}
 use Rattle.usage_writer.specs.Code.Write.{agrees, answer}
 use Rattle.usage_writer.specs.Print.{raw}
 use Rattle.usage.specs.Usage.{said, read_usage}

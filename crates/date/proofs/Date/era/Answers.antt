@@ -1,7 +1,6 @@
 -- The rule is what is held of the era in force.
 -- Assumes nothing.
 use mathlib.Core.Path.{◌∙◌}
-use borrow.Author.Rules.{rules}
 use Rattle.date.specs.Date.{date, held, make_era}
 use Rattle.date.proofs.Date.era.Goals as goal
 

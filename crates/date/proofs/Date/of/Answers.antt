@@ -1,6 +1,5 @@
 -- With no style named the rule is that of era style.
 -- Assumes nothing.
-use borrow.Author.Rules.{rules}
 use Rattle.date.specs.Date.{make_date}
 use Rattle.date.proofs.Date.of.Goals as goal
 

@@ -1,6 +1,5 @@
 -- The rule is what is held of western style.
 -- Assumes nothing.
-use borrow.Author.Rules.{rules}
 use Rattle.date.specs.Date.{make_western}
 use Rattle.date.proofs.Date.western.Goals as goal
 

@@ -1,0 +1,8 @@
+-- The formula is the count of the years before.
+-- Assumes nothing.
+use borrow.Author.Rules.{rules}
+use Rattle.day.proofs.Years.{formula}
+use Rattle.day.proofs.years_before.Goals as goal
+
+pub returns : goal.returns
+returns c = formula c.args.year (search rules)

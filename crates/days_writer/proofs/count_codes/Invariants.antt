@@ -1,0 +1,17 @@
+-- The codes counted and those of the places left are all codes.
+-- Assumes nothing.
+use Prim.Native.Nat.{◌+◌, ◌-◌, ◌*◌, ◌≤◌}
+use mathlib.Core.Path.{◌≡◌, ap}
+use lib.ListN.{length}
+use Rattle.days_writer.specs.Code.Print.{codes_from, days_in, run_of}
+use Rattle.days_writer.proofs.Sixes.{count}
+use Rattle.days_writer.proofs.Put.{run_count, run_end}
+use native.Mathlib.Omega.{arith}
+use Rattle.days_writer.proofs.count_codes.Given as goal
+
+abbrev pub invariant-loop-p : goal.invariant-loop-p
+invariant-loop-p l =
+    (l.p ≤ 13) × (l.n ≤ 6 * l.p) × (l.n + length (codes_from l.issue (13 - l.p) l.p (days_in l.days.cells)) ≡ length (codes_from l.issue 13 0 (days_in l.days.cells)))
+
+abbrev pub decreases-loop-p : goal.decreases-loop-p
+decreases-loop-p l = 13 - l.p

@@ -1,0 +1,46 @@
+-- The days counted and those left are all days of the mask.
+-- Assumes nothing.
+use Prim.Native.Nat.{◌+◌, ◌-◌, ◌≤◌}
+use mathlib.Core.Path.{◌≡◌, ap}
+use mathlib.Core.Logic.{⊎_elim}
+use lib.ListN.{length}
+use Rattle.days_writer.specs.Code.Mask.{since}
+use Rattle.days_writer.proofs.Mask.{since_in, since_out, since_end}
+use native.Mathlib.Omega.{arith}
+use Rattle.days_writer.proofs.day_count.Goals as goal
+
+pub loop-e-init : goal.loop-e-init
+loop-e-init c = (omega arith, omega arith, omega arith, omega arith)
+
+pub overflow_sub-e : goal.overflow_sub-e
+overflow_sub-e c = omega arith
+
+pub overflow_cast-e : goal.overflow_cast-e
+overflow_cast-e c = omega arith
+
+pub overflow_shr-mask : goal.overflow_shr-mask
+overflow_shr-mask c = omega arith
+
+pub overflow_add-n : goal.overflow_add-n
+overflow_add-n c = omega arith
+
+pub overflow_add-e : goal.overflow_add-e
+overflow_add-e c = omega arith
+
+pub loop-e-smaller : goal.loop-e-smaller
+loop-e-smaller c = omega arith
+
+pub loop-e-preserved : goal.loop-e-preserved
+loop-e-preserved c =
+    let a = c.args in
+    let l = c.loop-e in
+    ⊎_elim
+    (λ w. let f = ap length (since_in a.mask l.e (omega arith) (omega arith) w.0.taken) in (omega arith, omega arith, omega (arith, w.1), omega (arith, w.1)))
+    (λ w. let f = ap length (since_out a.mask l.e (omega arith) (omega arith) w.0.left) in (omega arith, omega arith, omega (arith, w.1), omega (arith, w.1)))
+    c.if-mask-e-eq1.branch
+
+pub returns : goal.returns
+returns c =
+    let a = c.args in
+    let l = c.loop-e in
+    (omega (arith, ap length (since_end a.mask l.e (omega arith))), omega arith)

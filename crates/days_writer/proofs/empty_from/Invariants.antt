@@ -1,0 +1,19 @@
+-- The cells passed hold no day: the test of the cells left is the test of all.
+-- Assumes nothing.
+use Prim.Native.Nat.{◌+◌, ◌-◌}
+use mathlib.Core.Path.{◌≡◌, refl, sym, ap, ◌∙◌}
+use mathlib.Core.Bool.{Bool, ◌&&◌}
+use borrow.Author.Tests.{eq-eqb, ne_eqb}
+use lib.ListN.{length, drop}
+use Rattle.days_writer.specs.Set.{empty}
+use Rattle.days_writer.proofs.Sets.{empty_step, empty_end}
+use native.Mathlib.Omega.{arith}
+use borrow.Author.Rules.{rules}
+use Rattle.days_writer.proofs.empty_from.Given as goal
+
+abbrev pub invariant-loop-m : goal.invariant-loop-m
+invariant-loop-m l =
+    empty (drop l.m l.days.cells) ≡ empty (drop l.from l.days.cells)
+
+abbrev pub decreases-loop-m : goal.decreases-loop-m
+decreases-loop-m l = 13 - l.m

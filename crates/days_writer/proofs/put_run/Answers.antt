@@ -1,0 +1,63 @@
+-- What is left to write is the codes of the places from p on.
+-- Assumes nothing.
+use Prim.Native.Nat.{◌+◌, ◌-◌, ◌*◌, ◌≤◌}
+use mathlib.Core.Path.{◌≡◌, refl, sym, ◌∙◌}
+use lib.ListN.{length}
+use lib.Seq.{sets}
+use Rattle.days_writer.specs.Code.Print.{codes_from, days_in, run_of, bytes_of}
+use Rattle.days_writer.proofs.Put.{run_count, run_next, run_end, written_all}
+use native.Mathlib.Omega.{arith}
+use Rattle.days_writer.proofs.put_run.Goals as goal
+
+pub loop-place-init : goal.loop-place-init
+loop-place-init c = (omega arith, refl, omega arith, refl)
+
+pub month_at-m-requires : goal.month_at-m-requires
+month_at-m-requires c = omega arith
+
+pub overflow_cast-k : goal.overflow_cast-k
+overflow_cast-k c = omega arith
+
+pub offset_bounds-days-k : goal.offset_bounds-days-k
+offset_bounds-days-k c = omega arith
+
+pub bounds-days-k : goal.bounds-days-k
+bounds-days-k c = omega arith
+
+pub put_month-j-requires : goal.put_month-j-requires
+unfolding run_of
+put_month-j-requires c =
+    let a = c.args in
+    let l = c.loop-place in
+    let m = c.month_at-m in
+    let n = run_count a.issue l.place a.t3.cells m.result (omega arith) m.ensures.0 in
+    omega arith
+
+pub overflow_add-place : goal.overflow_add-place
+overflow_add-place c = omega arith
+
+pub loop-place-smaller : goal.loop-place-smaller
+loop-place-smaller c = omega arith
+
+pub loop-place-preserved : goal.loop-place-preserved
+loop-place-preserved c =
+    let a = c.args in
+    let l = c.loop-place in
+    let m = c.month_at-m in
+    let p = c.put_month-j in
+    let n = run_count a.issue l.place a.t3.cells m.result (omega arith) m.ensures.0 in (
+      omega arith,
+      p.auto.0 ∙ l.invariant.1,
+      omega (arith, p.ensures.0),
+      run_next a.issue l.place a.t3.cells m.result (omega arith) m.ensures.0 l.out _ l.j _ p.ensures.1 p.ensures.0 ∙ l.invariant.3,
+    )
+
+pub shape_of-out : goal.shape_of-out
+shape_of-out c = c.loop-place.invariant.1
+
+pub returns : goal.returns
+unfolding run_of
+returns c =
+    let a = c.args in
+    let l = c.loop-place in
+    sym (written_all l.out l.j _ (run_end a.issue l.place (days_in a.t3.cells) (omega arith))) ∙ l.invariant.3
