@@ -4,7 +4,6 @@ use mathlib.Core.Path.{◌≡◌, refl, sym, ◌∙◌}
 use mathlib.Core.Bool.{Bool, true, false, not}
 use borrow.Author.Tests.{eq-eqb, ne_eqb}
 use Rattle.days_writer.specs.Set.{mixes, writable}
-use borrow.Author.Rules.{rules}
 use Rattle.days_writer.proofs.can_write.Goals as goal
 
 twice : (b : Bool) → not (not b) ≡ b

@@ -1,9 +1,8 @@
 -- The codes counted and those of the places left are all codes.
 -- Assumes nothing.
-use Prim.Native.Nat.{◌+◌, ◌-◌, ◌*◌, ◌≤◌}
-use mathlib.Core.Path.{◌≡◌, ap}
+use mathlib.Core.Path.{ap}
 use lib.ListN.{length}
-use Rattle.days_writer.specs.Code.Print.{codes_from, days_in, run_of}
+use Rattle.days_writer.specs.Code.Print.{days_in, run_of}
 use Rattle.days_writer.proofs.Sixes.{count}
 use Rattle.days_writer.proofs.Put.{run_count, run_end}
 use native.Mathlib.Omega.{arith}
@@ -44,8 +43,8 @@ loop-p-preserved c =
     let a = c.args in
     let l = c.loop-p in
     let m = c.month_at-m in
-    let n = run_count a.issue l.p a.t2.cells m.result (omega arith) m.ensures.0 in
-    let t = count m.result (days_in a.t2.cells m.result) in
+    let n = run_count a.issue l.p a.days.cells m.result (omega arith) m.ensures.0 in
+    let t = count m.result (days_in a.days.cells m.result) in
     (omega arith, omega arith, omega (arith, c.day_count.ensures.0))
 
 pub returns : goal.returns
@@ -53,4 +52,4 @@ unfolding run_of
 returns c =
     let a = c.args in
     let l = c.loop-p in
-    (omega (arith, ap length (run_end a.issue l.p (days_in a.t2.cells) (omega arith))), omega arith)
+    (omega (arith, ap length (run_end a.issue l.p (days_in a.days.cells) (omega arith))), omega arith)

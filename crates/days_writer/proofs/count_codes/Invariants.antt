@@ -1,12 +1,9 @@
 -- The codes counted and those of the places left are all codes.
 -- Assumes nothing.
 use Prim.Native.Nat.{◌+◌, ◌-◌, ◌*◌, ◌≤◌}
-use mathlib.Core.Path.{◌≡◌, ap}
+use mathlib.Core.Path.{◌≡◌}
 use lib.ListN.{length}
-use Rattle.days_writer.specs.Code.Print.{codes_from, days_in, run_of}
-use Rattle.days_writer.proofs.Sixes.{count}
-use Rattle.days_writer.proofs.Put.{run_count, run_end}
-use native.Mathlib.Omega.{arith}
+use Rattle.days_writer.specs.Code.Print.{codes_from, days_in}
 use Rattle.days_writer.proofs.count_codes.Given as goal
 
 abbrev pub invariant-loop-p : goal.invariant-loop-p

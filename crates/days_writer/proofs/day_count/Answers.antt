@@ -1,13 +1,11 @@
 -- The days counted and those left are all days of the mask.
 -- Assumes nothing.
-use Prim.Native.Nat.{◌+◌, ◌-◌, ◌≤◌}
-use mathlib.Core.Path.{◌≡◌, ap}
-use mathlib.Core.Logic.{⊎_elim}
+use mathlib.Core.Path.{ap}
 use lib.ListN.{length}
-use Rattle.days_writer.specs.Code.Mask.{since}
 use Rattle.days_writer.proofs.Mask.{since_in, since_out, since_end}
 use native.Mathlib.Omega.{arith}
 use Rattle.days_writer.proofs.day_count.Goals as goal
+use Rattle.days_writer.proofs.day_count.Goals.{then-mask-e-eq1, else-mask-e-eq1}
 
 pub loop-e-init : goal.loop-e-init
 loop-e-init c = (omega arith, omega arith, omega arith, omega arith)
@@ -34,10 +32,10 @@ pub loop-e-preserved : goal.loop-e-preserved
 loop-e-preserved c =
     let a = c.args in
     let l = c.loop-e in
-    ⊎_elim
-    (λ w. let f = ap length (since_in a.mask l.e (omega arith) (omega arith) w.0.taken) in (omega arith, omega arith, omega (arith, w.1), omega (arith, w.1)))
-    (λ w. let f = ap length (since_out a.mask l.e (omega arith) (omega arith) w.0.left) in (omega arith, omega arith, omega (arith, w.1), omega (arith, w.1)))
-    c.if-mask-e-eq1.branch
+    elim c.if-mask-e-eq1.branch [
+      then-mask-e-eq1 w ↦ (let f = ap length (since_in a.mask l.e (omega arith) (omega arith) w.if-mask-e-eq1.true) in (omega arith, omega arith, omega arith, omega arith))
+      | else-mask-e-eq1 w ↦ (let f = ap length (since_out a.mask l.e (omega arith) (omega arith) w.if-mask-e-eq1.false) in (omega arith, omega arith, omega arith, omega arith))
+    ]
 
 pub returns : goal.returns
 returns c =

@@ -1,12 +1,9 @@
 -- The days counted and those left are all days of the mask.
 -- Assumes nothing.
 use Prim.Native.Nat.{◌+◌, ◌-◌, ◌≤◌}
-use mathlib.Core.Path.{◌≡◌, ap}
-use mathlib.Core.Logic.{⊎_elim}
+use mathlib.Core.Path.{◌≡◌}
 use lib.ListN.{length}
 use Rattle.days_writer.specs.Code.Mask.{since}
-use Rattle.days_writer.proofs.Mask.{since_in, since_out, since_end}
-use native.Mathlib.Omega.{arith}
 use Rattle.days_writer.proofs.day_count.Given as goal
 
 abbrev pub invariant-loop-e : goal.invariant-loop-e

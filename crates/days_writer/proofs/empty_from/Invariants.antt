@@ -1,14 +1,9 @@
 -- The cells passed hold no day: the test of the cells left is the test of all.
 -- Assumes nothing.
-use Prim.Native.Nat.{◌+◌, ◌-◌}
-use mathlib.Core.Path.{◌≡◌, refl, sym, ap, ◌∙◌}
-use mathlib.Core.Bool.{Bool, ◌&&◌}
-use borrow.Author.Tests.{eq-eqb, ne_eqb}
-use lib.ListN.{length, drop}
+use Prim.Native.Nat.{◌-◌}
+use mathlib.Core.Path.{◌≡◌}
+use lib.ListN.{drop}
 use Rattle.days_writer.specs.Set.{empty}
-use Rattle.days_writer.proofs.Sets.{empty_step, empty_end}
-use native.Mathlib.Omega.{arith}
-use borrow.Author.Rules.{rules}
 use Rattle.days_writer.proofs.empty_from.Given as goal
 
 abbrev pub invariant-loop-m : goal.invariant-loop-m

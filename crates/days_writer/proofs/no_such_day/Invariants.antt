@@ -1,14 +1,9 @@
 -- The cells passed hold only days of their months: the test of the cells left is the test of all.
 -- Assumes nothing.
-use Prim.Native.Nat.{◌+◌, ◌-◌, ◌≤◌}
-use mathlib.Core.Path.{◌≡◌, refl, sym, ap, ◌∙◌}
-use mathlib.Core.Bool.{Bool, ◌||◌}
-use borrow.Author.Tests.{le-leb, lt-leb}
-use lib.ListN.{length, drop}
+use Prim.Native.Nat.{◌-◌, ◌≤◌}
+use mathlib.Core.Path.{◌≡◌}
+use lib.ListN.{drop}
 use Rattle.days_writer.specs.Set.{no_such_day}
-use Rattle.days_writer.proofs.Sets.{exist_step, exist_end, beyond_at}
-use native.Mathlib.Omega.{arith}
-use borrow.Author.Rules.{rules}
 use Rattle.days_writer.proofs.no_such_day.Given as goal
 
 abbrev pub invariant-loop-m : goal.invariant-loop-m

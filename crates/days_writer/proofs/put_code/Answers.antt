@@ -1,9 +1,9 @@
 -- What is left to write is the columns from i on, of the days from e on.
 -- Assumes nothing.
-use Prim.Native.Nat.{ℕ, suc, ◌+◌, ◌-◌, ◌≤◌}
+use Prim.Native.Nat.{ℕ, suc, ◌+◌, ◌-◌}
 use native.Mathlib.Nat.{add-zero}
 use mathlib.Core.Path.{◌≡◌, refl, sym, ap, ◌∙◌}
-use lib.ListN.{length, set, drop, length-set}
+use lib.ListN.{length, set, length-set}
 use lib.Seq.{sets}
 use Rattle.days.specs.Code.Good.{pad}
 use Rattle.days_writer.specs.Code.Mask.{since}
@@ -54,7 +54,7 @@ loop-i-preserved c =
       omega arith,
       p.ensures.0,
       p.ensures.1,
-      p.auto.0 ∙ l.invariant.3,
+      p.auto.out ∙ l.invariant.3,
       column_next (6 - l.i) (6 - (l.i + 1)) (since a.mask l.e) _ p.ensures.2 q l.out _ (a.at + 2 + l.i) _ p.ensures.3 (omega arith) ∙ l.invariant.4,
       days_next (6 - l.i) (6 - (l.i + 1)) (since a.mask l.e) _ p.ensures.2 q ∙ l.invariant.5,
     )

@@ -1,14 +1,11 @@
 -- What is left to write is the columns from i on, of the days from e on.
 -- Assumes nothing.
-use Prim.Native.Nat.{ℕ, suc, ◌+◌, ◌-◌, ◌≤◌}
-use native.Mathlib.Nat.{add-zero}
-use mathlib.Core.Path.{◌≡◌, refl, sym, ap, ◌∙◌}
-use lib.ListN.{length, set, drop, length-set}
+use Prim.Native.Nat.{◌+◌, ◌-◌, ◌≤◌}
+use mathlib.Core.Path.{◌≡◌}
+use lib.ListN.{length, drop}
 use lib.Seq.{sets}
 use Rattle.days.specs.Code.Good.{pad}
 use Rattle.days_writer.specs.Code.Mask.{since}
-use Rattle.days_writer.proofs.Put.{code_start, column_next, column_last, days_next}
-use native.Mathlib.Omega.{arith}
 use Rattle.days_writer.proofs.put_code.Given as goal
 
 abbrev pub invariant-loop-i : goal.invariant-loop-i

@@ -1,6 +1,6 @@
 -- What is left to write is the codes for the days from d on.
 -- Assumes nothing.
-use Prim.Native.Nat.{ℕ, ◌+◌, ◌*◌, ◌≤◌, ◌<◌}
+use Prim.Native.Nat.{ℕ, ◌+◌, ◌*◌, ◌≤◌}
 use mathlib.Core.Path.{◌≡◌, refl, sym, ap, ◌∙◌}
 use mathlib.Core.List.{List}
 use lib.ListN.{length, drop}
@@ -59,7 +59,7 @@ loop-d-preserved c =
     let n = month_count a.month (since a.mask l.d) (since a.mask c.next_day-d-in-loop-d.result) some e in (
       omega arith,
       omega arith,
-      p.auto.0 ∙ l.invariant.2,
+      p.auto.out ∙ l.invariant.2,
       some_day a.mask c.next_day-d-in-loop-d.result q.head,
       omega arith,
       month_next a.month (since a.mask l.d) _ some e l.out _ l.j p.ensures.3 ∙ l.invariant.5,

@@ -1,16 +1,11 @@
 -- What is left to write is the codes for the days from d on.
 -- Assumes nothing.
-use Prim.Native.Nat.{ℕ, ◌+◌, ◌*◌, ◌≤◌, ◌<◌}
-use mathlib.Core.Path.{◌≡◌, refl, sym, ap, ◌∙◌}
-use mathlib.Core.List.{List}
-use lib.ListN.{length, drop}
+use Prim.Native.Nat.{◌+◌, ◌*◌, ◌≤◌, ◌<◌}
+use mathlib.Core.Path.{◌≡◌}
+use lib.ListN.{length}
 use lib.Seq.{sets}
 use Rattle.days_writer.specs.Code.Mask.{since}
 use Rattle.days_writer.specs.Code.Print.{in_sixes, bytes_of}
-use Rattle.days_writer.proofs.Mask.{since_end}
-use Rattle.days_writer.proofs.Sixes.{count}
-use Rattle.days_writer.proofs.Put.{some_day, month_next, month_count, month_end}
-use native.Mathlib.Omega.{arith}
 use Rattle.days_writer.proofs.put_month.Given as goal
 
 abbrev pub invariant-loop-d : goal.invariant-loop-d

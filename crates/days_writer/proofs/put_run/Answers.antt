@@ -1,10 +1,7 @@
 -- What is left to write is the codes of the places from p on.
 -- Assumes nothing.
-use Prim.Native.Nat.{◌+◌, ◌-◌, ◌*◌, ◌≤◌}
-use mathlib.Core.Path.{◌≡◌, refl, sym, ◌∙◌}
-use lib.ListN.{length}
-use lib.Seq.{sets}
-use Rattle.days_writer.specs.Code.Print.{codes_from, days_in, run_of, bytes_of}
+use mathlib.Core.Path.{refl, sym, ◌∙◌}
+use Rattle.days_writer.specs.Code.Print.{days_in, run_of}
 use Rattle.days_writer.proofs.Put.{run_count, run_next, run_end, written_all}
 use native.Mathlib.Omega.{arith}
 use Rattle.days_writer.proofs.put_run.Goals as goal
@@ -30,7 +27,7 @@ put_month-j-requires c =
     let a = c.args in
     let l = c.loop-place in
     let m = c.month_at-m in
-    let n = run_count a.issue l.place a.t3.cells m.result (omega arith) m.ensures.0 in
+    let n = run_count a.issue l.place a.days.cells m.result (omega arith) m.ensures.0 in
     omega arith
 
 pub overflow_add-place : goal.overflow_add-place
@@ -45,11 +42,11 @@ loop-place-preserved c =
     let l = c.loop-place in
     let m = c.month_at-m in
     let p = c.put_month-j in
-    let n = run_count a.issue l.place a.t3.cells m.result (omega arith) m.ensures.0 in (
+    let n = run_count a.issue l.place a.days.cells m.result (omega arith) m.ensures.0 in (
       omega arith,
-      p.auto.0 ∙ l.invariant.1,
+      p.auto.out ∙ l.invariant.1,
       omega (arith, p.ensures.0),
-      run_next a.issue l.place a.t3.cells m.result (omega arith) m.ensures.0 l.out _ l.j _ p.ensures.1 p.ensures.0 ∙ l.invariant.3,
+      run_next a.issue l.place a.days.cells m.result (omega arith) m.ensures.0 l.out _ l.j _ p.ensures.1 p.ensures.0 ∙ l.invariant.3,
     )
 
 pub shape_of-out : goal.shape_of-out
@@ -60,4 +57,4 @@ unfolding run_of
 returns c =
     let a = c.args in
     let l = c.loop-place in
-    sym (written_all l.out l.j _ (run_end a.issue l.place (days_in a.t3.cells) (omega arith))) ∙ l.invariant.3
+    sym (written_all l.out l.j _ (run_end a.issue l.place (days_in a.days.cells) (omega arith))) ∙ l.invariant.3

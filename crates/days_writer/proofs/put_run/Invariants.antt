@@ -1,12 +1,10 @@
 -- What is left to write is the codes of the places from p on.
 -- Assumes nothing.
 use Prim.Native.Nat.{◌+◌, ◌-◌, ◌*◌, ◌≤◌}
-use mathlib.Core.Path.{◌≡◌, refl, sym, ◌∙◌}
+use mathlib.Core.Path.{◌≡◌}
 use lib.ListN.{length}
 use lib.Seq.{sets}
-use Rattle.days_writer.specs.Code.Print.{codes_from, days_in, run_of, bytes_of}
-use Rattle.days_writer.proofs.Put.{run_count, run_next, run_end, written_all}
-use native.Mathlib.Omega.{arith}
+use Rattle.days_writer.specs.Code.Print.{codes_from, days_in, bytes_of}
 use Rattle.days_writer.proofs.put_run.Given as goal
 
 abbrev pub invariant-loop-place : goal.invariant-loop-place

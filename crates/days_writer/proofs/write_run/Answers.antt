@@ -22,7 +22,7 @@ pub returns-then-out-n : goal.returns-then-out-n
 returns-then-out-n c =
     let a = c.args in
     let m = a_month_lem a.issue (omega arith) (omega arith) in
-    let w = sym c.can_write_lem.ensures ∙ c.if-can_write.true in
+    let w = sym c.can_write.ensures ∙ c.if-can_write.true in
     let l : length a.days.cells ≡ 13 = search rules in
     rw c.not_written-then-out-n.ensures (full a.issue a.days.cells a.out.now m w l (omega (arith, c.count_codes-n.ensures.0)))
 
@@ -30,7 +30,7 @@ pub returns-then-can_write : goal.returns-then-can_write
 returns-then-can_write c =
     let a = c.args in
     let m = a_month_lem a.issue (omega arith) (omega arith) in
-    let w = sym c.can_write_lem.ensures ∙ c.if-can_write.true in
+    let w = sym c.can_write.ensures ∙ c.if-can_write.true in
     let l : length a.days.cells ≡ 13 = search rules in
     let n = c.count_codes-n.ensures.0 in
     rw (n, c.put_run.ensures) (done a.issue a.days.cells a.out.now m w l (omega (arith, n, c.if-out-n.false)))
@@ -39,4 +39,4 @@ pub returns : goal.returns
 returns c =
     let a = c.args in
     let m = a_month_lem a.issue (omega arith) (omega arith) in
-    rw c.not_written-2.ensures (eleven a.issue a.days.cells a.out.now m (sym c.can_write_lem.ensures ∙ c.if-can_write.false))
+    rw c.not_written-2.ensures (eleven a.issue a.days.cells a.out.now m (sym c.can_write.ensures ∙ c.if-can_write.false))
