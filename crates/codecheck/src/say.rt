@@ -4,262 +4,262 @@ use days::DaySet;
 use supplement::{Days, Supplement, Week};
 use usage::{Event, Hours, Instruction, Occasions};
 
-pub fn words(text: &[u8]) {
-    io::write_all(libc::STDOUT_FILENO, text);
+pub fn words(rt: &impl Print, text: &[u8]) {
+    streams::write_all(rt, text);
 }
 
-pub fn number(n: usize) {
-    io::print_decimal(libc::STDOUT_FILENO, n as u64);
+pub fn number(rt: &impl Print, n: usize) {
+    streams::print_decimal(rt, n as u64);
 }
 
-fn letter(c: u8) {
+fn letter(rt: &impl Print, c: u8) {
     let one = [c];
-    words(&one)
+    words(rt, &one)
 }
 
 // A name and a number; a name and the character of a value; a name and an hour, `-` for none.
-fn named(name: &[u8], n: u8) {
-    words(name);
-    number(n as usize)
+fn named(rt: &impl Print, name: &[u8], n: u8) {
+    words(rt, name);
+    number(rt, n as usize)
 }
 
-fn character(name: &[u8], v: u8) {
-    words(name);
-    letter(cells::letter(v))
+fn character(rt: &impl Print, name: &[u8], v: u8) {
+    words(rt, name);
+    letter(rt, cells::letter(v))
 }
 
-fn hour(name: &[u8], h: u8) {
+fn hour(rt: &impl Print, name: &[u8], h: u8) {
     if h == 24 {
-        words(name);
-        return words(b"-");
+        words(rt, name);
+        return words(rt, b"-");
     }
-    named(name, h)
+    named(rt, name, h)
 }
 
-pub fn unknown() {
-    words(b"unknown question")
+pub fn unknown(rt: &impl Print) {
+    words(rt, b"unknown question")
 }
 
-pub fn refusal(code: u16, place: usize) {
-    words(b"refused ");
-    number(code as usize);
-    words(b" ");
-    number(place)
+pub fn refusal(rt: &impl Print, code: u16, place: usize) {
+    words(rt, b"refused ");
+    number(rt, code as usize);
+    words(rt, b" ");
+    number(rt, place)
 }
 
 // Is a code that was read the one that is written for it?
-pub fn same(yes: bool) {
+pub fn same(rt: &impl Print, yes: bool) {
     if yes {
-        return words(b"same");
+        return words(rt, b"same");
     }
-    words(b"different")
+    words(rt, b"different")
 }
 
 // A date as it is written.
-fn day_text(t: Date) {
+fn day_text(rt: &impl Print, t: Date) {
     let p = date::print(t);
     let bytes = p.bytes;
     let n = p.length as usize;
-    words(b"taken ");
-    words(first(&bytes, n));
+    words(rt, b"taken ");
+    words(rt, first(&bytes, n));
 }
 
-pub fn made(m: Made) {
+pub fn made(rt: &impl Print, m: Made) {
     match m {
-        Made::Day(t) => day_text(t),
-        Made::None(f) => refusal(f.number, f.place),
+        Made::Day(t) => day_text(rt, t),
+        Made::None(f) => refusal(rt, f.number, f.place),
     }
 }
 
-pub fn instruction(i: Instruction) {
-    class(i.class);
-    character(b";detail=", i.detail);
-    named(b";kind=", i.kind);
+pub fn instruction(rt: &impl Print, i: Instruction) {
+    class(rt, i.class);
+    character(rt, b";detail=", i.detail);
+    named(rt, b";kind=", i.kind);
     if i.kind == 5 {
         let e = i.event;
-        return event(e);
+        return event(rt, e);
     }
-    named(b";times=", i.times);
-    timing(i)
+    named(rt, b";times=", i.times);
+    timing(rt, i)
 }
 
-fn class(n: u8) {
+fn class(rt: &impl Print, n: u8) {
     if n == 1 {
-        return words(b"taken class=oral");
+        return words(rt, b"taken class=oral");
     }
-    words(b"taken class=external")
+    words(rt, b"taken class=external")
 }
 
-fn timing(i: Instruction) {
+fn timing(rt: &impl Print, i: Instruction) {
     let o = i.occasions;
     if i.kind == 1 {
-        return meals(o);
+        return meals(rt, o);
     }
     if i.kind == 2 {
-        return hour(b";start=", i.start);
+        return hour(rt, b";start=", i.start);
     }
     if i.kind == 3 {
         let h = i.hours;
-        return clock(h);
+        return clock(rt, h);
     }
     if i.kind == 6 {
-        return outside(o);
+        return outside(rt, o);
     }
-    character(b";about=", i.about)
+    character(rt, b";about=", i.about)
 }
 
-fn meals(o: Occasions) {
-    named(b";bedtime=", o.bedtime);
-    named(b";supper=", o.supper);
-    named(b";lunch=", o.lunch);
-    named(b";breakfast=", o.breakfast);
-    named(b";waking=", o.waking);
+fn meals(rt: &impl Print, o: Occasions) {
+    named(rt, b";bedtime=", o.bedtime);
+    named(rt, b";supper=", o.supper);
+    named(rt, b";lunch=", o.lunch);
+    named(rt, b";breakfast=", o.breakfast);
+    named(rt, b";waking=", o.waking);
     if o.hour == 15 {
-        return words(b";at15=1");
+        return words(rt, b";at15=1");
     }
-    words(b";at15=0")
+    words(rt, b";at15=0")
 }
 
-fn outside(o: Occasions) {
-    named(b";bedtime=", o.bedtime);
-    character(b";evening=", o.supper);
-    named(b";noon=", o.lunch);
-    character(b";morning=", o.breakfast);
-    named(b";waking=", o.waking);
-    hour(b";hour=", o.hour)
+fn outside(rt: &impl Print, o: Occasions) {
+    named(rt, b";bedtime=", o.bedtime);
+    character(rt, b";evening=", o.supper);
+    named(rt, b";noon=", o.lunch);
+    character(rt, b";morning=", o.breakfast);
+    named(rt, b";waking=", o.waking);
+    hour(rt, b";hour=", o.hour)
 }
 
-fn event(e: Event) {
-    character(b";event=", e.group);
-    character(b"", e.event);
-    character(b";condition=", e.condition);
-    character(b";interval=", e.interval);
-    character(b";limit=", e.limit)
+fn event(rt: &impl Print, e: Event) {
+    character(rt, b";event=", e.group);
+    character(rt, b"", e.event);
+    character(rt, b";condition=", e.condition);
+    character(rt, b";interval=", e.interval);
+    character(rt, b";limit=", e.limit)
 }
 
-fn clock(h: Hours) {
-    named(b";hours=", h.h1);
-    next_hour(h.h2);
-    next_hour(h.h3);
-    next_hour(h.h4);
-    next_hour(h.h5);
-    next_hour(h.h6);
-    next_hour(h.h7);
-    next_hour(h.h8)
+fn clock(rt: &impl Print, h: Hours) {
+    named(rt, b";hours=", h.h1);
+    next_hour(rt, h.h2);
+    next_hour(rt, h.h3);
+    next_hour(rt, h.h4);
+    next_hour(rt, h.h5);
+    next_hour(rt, h.h6);
+    next_hour(rt, h.h7);
+    next_hour(rt, h.h8)
 }
 
-fn next_hour(h: u8) {
+fn next_hour(rt: &impl Print, h: u8) {
     if h != 24 {
-        named(b",", h)
+        named(rt, b",", h)
     }
 }
 
-pub fn supplement(x: Supplement) {
-    words(b"taken supplement=");
-    letter(x.letter);
+pub fn supplement(rt: &impl Print, x: Supplement) {
+    words(rt, b"taken supplement=");
+    letter(rt, x.letter);
     if x.letter == b'I' {
-        named(b";on=", x.on);
-        return named(b";off=", x.off);
+        named(rt, b";on=", x.on);
+        return named(rt, b";off=", x.off);
     }
     if x.letter == b'W' {
         let w = x.week;
-        return week(w);
+        return week(rt, w);
     }
     if x.letter == b'D' {
-        named(b";month=", x.month);
+        named(rt, b";month=", x.month);
         let d = x.days;
-        return dates(d);
+        return dates(rt, d);
     }
-    count_or_amount(x)
+    count_or_amount(rt, x)
 }
 
-fn count_or_amount(x: Supplement) {
+fn count_or_amount(rt: &impl Print, x: Supplement) {
     if x.letter == b'C' {
-        words(b";period=");
-        letter(x.period);
-        return named(b";count=", x.count);
+        words(rt, b";period=");
+        letter(rt, x.period);
+        return named(rt, b";count=", x.count);
     }
-    named(b";order=", x.order);
-    words(b";digits=");
-    number(x.figures as usize);
-    named(b";places=", x.places)
+    named(rt, b";order=", x.order);
+    words(rt, b";digits=");
+    number(rt, x.figures as usize);
+    named(rt, b";places=", x.places)
 }
 
-fn week(w: Week) {
-    named(b";days=", w.sunday);
-    named(b",", w.monday);
-    named(b",", w.tuesday);
-    named(b",", w.wednesday);
-    named(b",", w.thursday);
-    named(b",", w.friday);
-    named(b",", w.saturday)
+fn week(rt: &impl Print, w: Week) {
+    named(rt, b";days=", w.sunday);
+    named(rt, b",", w.monday);
+    named(rt, b",", w.tuesday);
+    named(rt, b",", w.wednesday);
+    named(rt, b",", w.thursday);
+    named(rt, b",", w.friday);
+    named(rt, b",", w.saturday)
 }
 
-fn dates(d: Days) {
-    named(b";days=", d.d1);
-    next_day(d.d2);
-    next_day(d.d3);
-    next_day(d.d4);
-    next_day(d.d5);
-    next_day(d.d6)
+fn dates(rt: &impl Print, d: Days) {
+    named(rt, b";days=", d.d1);
+    next_day(rt, d.d2);
+    next_day(rt, d.d3);
+    next_day(rt, d.d4);
+    next_day(rt, d.d5);
+    next_day(rt, d.d6)
 }
 
-fn next_day(d: u8) {
+fn next_day(rt: &impl Print, d: u8) {
     if d != 0 {
-        named(b",", d)
+        named(rt, b",", d)
     }
 }
 
 // The cells of a set that have days, parted by `/`; there is at least one.
-pub fn days(set: DaySet) {
-    words(b"taken");
+pub fn days(rt: &impl Print, set: DaySet) {
+    words(rt, b"taken");
     let mut mark: u8 = b' ';
     let mut m: usize = 0;
     while m < 13 {
         let mask = set.cells[m];
-        mark = cell(mark, m, mask);
+        mark = cell(rt, mark, m, mask);
         m += 1;
     }
 }
 
 // One cell after the mark that parts it from what stands before it; the mark before the next one.
-fn cell(mark: u8, m: usize, mask: u32) -> u8 {
+fn cell(rt: &impl Print, mark: u8, m: usize, mask: u32) -> u8 {
     if mask == 0 {
         return mark;
     }
-    letter(mark);
-    number(m);
-    cell_days(mask);
+    letter(rt, mark);
+    number(rt, m);
+    cell_days(rt, mask);
     b'/'
 }
 
-fn cell_days(mask: u32) {
+fn cell_days(rt: &impl Print, mask: u32) {
     let mut mark: u8 = b':';
     let mut d: usize = 1;
     let mut left = mask;
     while d < 33 {
-        mark = day(mark, d, left % 2);
+        mark = day(rt, mark, d, left % 2);
         left /= 2;
         d += 1;
     }
 }
 
-fn day(mark: u8, d: usize, bit: u32) -> u8 {
+fn day(rt: &impl Print, mark: u8, d: usize, bit: u32) -> u8 {
     if bit == 0 {
         return mark;
     }
-    letter(mark);
-    number(d);
+    letter(rt, mark);
+    number(rt, d);
     b','
 }
 
 // How many codes, and their characters.
-pub fn codes(n: usize, codes: &[u8; 536]) {
-    words(b"written ");
-    number(n);
-    words(b" ");
+pub fn codes(rt: &impl Print, n: usize, codes: &[u8; 536]) {
+    words(rt, b"written ");
+    number(rt, n);
+    words(rt, b" ");
     if n <= 67 {
-        words(first(codes, 8 * n))
+        words(rt, first(codes, 8 * n))
     }
 }
 

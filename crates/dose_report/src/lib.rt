@@ -15,11 +15,11 @@ const LINE: usize = 16382;
 
 // Prints `doses D1 D2 ..`, the refusal, or `unknown question`, and hands back what the sheet is read as: its promise is about that, and what it prints
 // is compared.
-pub fn answer(s: &[u8]) -> Checked
+pub fn answer(rt: &impl Print, s: &[u8]) -> Checked
     ensures { said_check result ≡ check_file (behind s.now) }
 {
     let sheet = sheet_of(s);
-    ask(line_of(s), sheet);
+    ask(rt, line_of(s), sheet);
     reader::check(sheet)
 }
 
@@ -129,7 +129,7 @@ fn after(at: usize) -> usize {
 
 // ---- the answer
 
-fn ask(line: &[u8], sheet: &[u8]) {
+fn ask(rt: &impl Print, line: &[u8], sheet: &[u8]) {
     let rp = number(line, 0);
     let year = another(line, rp);
     let month = another(line, year);
@@ -138,6 +138,7 @@ fn ask(line: &[u8], sheet: &[u8]) {
     let room = another(line, days);
     if room.good & ((room.next == line.len()) & (line.len() <= LINE)) {
         return tell(
+            rt,
             sheet,
             rp.value,
             year.value,
@@ -147,13 +148,32 @@ fn ask(line: &[u8], sheet: &[u8]) {
             room.value,
         );
     }
-    words(b"unknown question\n")
+    words(rt, b"unknown question\n")
 }
 
 // Room for the longest calendar: more is as good as that.
-fn tell(sheet: &[u8], rp: u32, year: u32, month: u32, day: u32, days: u32, room: u32) {
+fn tell(
+    rt: &impl Print,
+    sheet: &[u8],
+    rp: u32,
+    year: u32,
+    month: u32,
+    day: u32,
+    days: u32,
+    room: u32,
+) {
     let mut doses = [0u8; 366];
-    fill_into(&mut doses, sheet, rp, year, month, day, days, places(room))
+    fill_into(
+        rt,
+        &mut doses,
+        sheet,
+        rp,
+        year,
+        month,
+        day,
+        days,
+        places(room),
+    )
 }
 
 fn places(room: u32) -> usize
@@ -166,6 +186,7 @@ fn places(room: u32) -> usize
 }
 
 fn fill_into(
+    rt: &impl Print,
     doses: &mut [u8; 366],
     sheet: &[u8],
     rp: u32,
@@ -175,10 +196,11 @@ fn fill_into(
     days: u32,
     room: usize,
 ) {
-    fill(doses, sheet, rp, year, month, day, days, room)
+    fill(rt, doses, sheet, rp, year, month, day, days, room)
 }
 
 fn fill(
+    rt: &impl Print,
     doses: &mut [u8],
     sheet: &[u8],
     rp: u32,
@@ -193,39 +215,39 @@ fn fill(
         return;
     }
     match dose_calendar::fill(sheet, rp, year, month, day, days, &mut doses[0..room]) {
-        Answer::Filled => print_doses(doses, days),
-        Answer::Refused(f) => refused(sheet, f),
+        Answer::Filled => print_doses(rt, doses, days),
+        Answer::Refused(f) => refused(rt, sheet, f),
     }
 }
 
-fn print_doses(doses: &[u8], days: u32) {
-    words(b"doses");
+fn print_doses(rt: &impl Print, doses: &[u8], days: u32) {
+    words(rt, b"doses");
     let mut k: usize = 0;
     while k < doses.len() {
-        print_dose(doses[k], k, days);
+        print_dose(rt, doses[k], k, days);
         k += 1;
     }
-    words(b"\n")
+    words(rt, b"\n")
 }
 
-fn print_dose(dose: u8, k: usize, days: u32) {
+fn print_dose(rt: &impl Print, dose: u8, k: usize, days: u32) {
     if k < days as usize {
-        words(b" ");
-        io::print_decimal(libc::STDOUT_FILENO, dose as u64);
+        words(rt, b" ");
+        streams::print_decimal(rt, dose as u64);
     }
 }
 
 // The file's own refusal is `report`'s line; the calendar's numbers have no place.
-fn refused(sheet: &[u8], f: Refusal) {
+fn refused(rt: &impl Print, sheet: &[u8], f: Refusal) {
     if f.fault.number < 33 {
-        report::sheet(sheet);
+        report::sheet(rt, sheet);
         return;
     }
-    words(b"refused ");
-    io::print_decimal(libc::STDOUT_FILENO, f.fault.number as u64);
-    words(b"\n")
+    words(rt, b"refused ");
+    streams::print_decimal(rt, f.fault.number as u64);
+    words(rt, b"\n")
 }
 
-fn words(text: &[u8]) {
-    io::write_all(libc::STDOUT_FILENO, text);
+fn words(rt: &impl Print, text: &[u8]) {
+    streams::write_all(rt, text);
 }

@@ -35,29 +35,29 @@ struct Bag {
 }
 
 // Checks a sheet, prints its labels, or the line that `report` has for a refusal, and hands back what it is read as.
-pub fn sheet(s: &[u8]) -> Checked
+pub fn sheet(rt: &impl Print, s: &[u8]) -> Checked
     ensures { said_check result ≡ check_file s.now }
 {
     let r = reader::check(s);
     match r {
         Checked::Records(_) => {
-            labels(s);
+            labels(rt, s);
         }
         Checked::Refused(_) => {
-            report::sheet(s);
+            report::sheet(rt, s);
         }
     }
     r
 }
 
 // Room for the longest run of date codes, 67 of them.
-fn labels(s: &[u8]) {
+fn labels(rt: &impl Print, s: &[u8]) {
     let mut codes = [0u8; 536];
-    label_records(s, &mut codes);
+    label_records(rt, s, &mut codes);
 }
 
 // Record by record, through the sheet that carries its file; one that is taken ends with no refusal.
-fn label_records(s: &[u8], codes: &mut [u8]) {
+fn label_records(rt: &impl Print, s: &[u8], codes: &mut [u8]) {
     let mut t = sheet::begin(s);
     let mut bag = no_bag();
     loop {
@@ -65,14 +65,14 @@ fn label_records(s: &[u8], codes: &mut [u8]) {
         let answer = step.next;
         match answer {
             Handed::Record(r) => {
-                bag = with_record(s, bag, r, codes);
+                bag = with_record(rt, s, bag, r, codes);
                 t = step.state;
             }
             Handed::Refused(_) => {
                 return;
             }
             Handed::End => {
-                return print(b"\n");
+                return print(rt, b"\n");
             }
         }
     }
@@ -92,13 +92,13 @@ fn no_bag() -> Bag {
 }
 
 // What a record adds to the label is printed, and what it leaves is handed back.
-fn with_record(s: &[u8], bag: Bag, r: Record, codes: &mut [u8]) -> Bag {
+fn with_record(rt: &impl Print, s: &[u8], bag: Bag, r: Record, codes: &mut [u8]) -> Bag {
     match r {
         Record::Issue(x) => with_issue(bag, x.date),
-        Record::Rp(x) => with_rp(bag, x),
-        Record::Usage(x) => with_line(s, bag, x.name),
-        Record::Supplement(x) => with_supplement(s, bag, x, codes),
-        Record::Drug(x) => with_drug(s, bag, x, codes),
+        Record::Rp(x) => with_rp(rt, bag, x),
+        Record::Usage(x) => with_line(rt, s, bag, x.name),
+        Record::Supplement(x) => with_supplement(rt, s, bag, x, codes),
+        Record::Drug(x) => with_drug(rt, s, bag, x, codes),
         Record::Kept(_) => bag,
     }
 }
@@ -110,49 +110,49 @@ fn with_issue(bag: Bag, date: Date) -> Bag {
 }
 
 // An RP begins: an empty line ends the label before it.
-fn with_rp(bag: Bag, x: Record101) -> Bag {
+fn with_rp(rt: &impl Print, bag: Bag, x: Record101) -> Bag {
     if bag.begun {
-        print(b"\n");
+        print(rt, b"\n");
     }
-    print(b"RP");
-    print_right(printed::number(x.rp.0), 4);
-    print(b"  ");
-    issue_date(bag.issue);
-    print(b"\n");
+    print(rt, b"RP");
+    print_right(rt, printed::number(x.rp.0), 4);
+    print(rt, b"  ");
+    issue_date(rt, bag.issue);
+    print(rt, b"\n");
     let mut b = bag;
     b.begun = true;
     b
 }
 
 // The date made again with no style named.
-fn issue_date(t: Date) {
+fn issue_date(rt: &impl Print, t: Date) {
     match Date::of(t.year, t.month, t.day) {
-        Made::Day(d) => print_right(printed::day(d), 0),
+        Made::Day(d) => print_right(rt, printed::day(d), 0),
         Made::None(_) => {}
     }
 }
 
-fn with_line(s: &[u8], bag: Bag, p: Place) -> Bag {
-    print_line(record::text(s, p));
+fn with_line(rt: &impl Print, s: &[u8], bag: Bag, p: Place) -> Bag {
+    print_line(rt, record::text(s, p));
     bag
 }
 
-fn with_supplement(s: &[u8], bag: Bag, x: Record181, codes: &mut [u8]) -> Bag {
+fn with_supplement(rt: &impl Print, s: &[u8], bag: Bag, x: Record181, codes: &mut [u8]) -> Bag {
     let code = x.code;
     match code {
-        SupplementCode::Is(c) => with_code(bag, c, codes),
-        SupplementCode::Empty => with_line(s, bag, x.text),
+        SupplementCode::Is(c) => with_code(rt, bag, c, codes),
+        SupplementCode::Empty => with_line(rt, s, bag, x.text),
     }
 }
 
 // A date code waits for the others of its run.
-fn with_code(bag: Bag, x: Supplement, codes: &mut [u8]) -> Bag {
+fn with_code(rt: &impl Print, bag: Bag, x: Supplement, codes: &mut [u8]) -> Bag {
     if x.letter == b'D' {
         let mut b = bag;
         b.run = put_code(codes, bag.run, x);
         return b;
     }
-    print_schedule(x);
+    print_schedule(rt, x);
     bag
 }
 
@@ -175,28 +175,28 @@ fn put_code(codes: &mut [u8], at: usize, x: Supplement) -> usize {
 }
 
 // A drug, and before the first of its RP the dates.
-fn with_drug(s: &[u8], bag: Bag, x: Record201, codes: &[u8]) -> Bag {
+fn with_drug(rt: &impl Print, s: &[u8], bag: Bag, x: Record201, codes: &[u8]) -> Bag {
     let issue = bag.issue;
-    dates(issue.month, first(codes, bag.run));
-    drug(s, x);
+    dates(rt, issue.month, first(codes, bag.run));
+    drug(rt, s, x);
     let mut b = bag;
     b.run = 0;
     b
 }
 
 // The days of the whole run; none where no code waits.
-fn dates(issue: u8, codes: &[u8]) {
+fn dates(rt: &impl Print, issue: u8, codes: &[u8]) {
     let r = days::read_run(issue, codes);
     let set = r.days;
-    print_days(issue, set)
+    print_days(rt, issue, set)
 }
 
-fn drug(s: &[u8], x: Record201) {
-    drug_name(title(s, x));
-    print_right(printed::amount(x.amount), AMOUNT);
-    print(b" ");
-    print(record::text(s, x.unit));
-    print(b"\n");
+fn drug(rt: &impl Print, s: &[u8], x: Record201) {
+    drug_name(rt, title(s, x));
+    print_right(rt, printed::amount(x.amount), AMOUNT);
+    print(rt, b" ");
+    print(rt, record::text(s, x.unit));
+    print(rt, b"\n");
 }
 
 // What a drug is called: its name, or where it has none its code.
@@ -209,83 +209,83 @@ fn title(s: &[u8], x: Record201) -> &[u8] {
 }
 
 // Up to the amount's columns, on the next line where the name passes its own.
-fn drug_name(t: &[u8]) {
-    print(b"  ");
-    print(t);
+fn drug_name(rt: &impl Print, t: &[u8]) {
+    print(rt, b"  ");
+    print(rt, t);
     if NAME < t.len() {
-        print(b"\n  ");
-        return fill(0, NAME);
+        print(rt, b"\n  ");
+        return fill(rt, 0, NAME);
     }
-    fill(t.len(), NAME)
+    fill(rt, t.len(), NAME)
 }
 
 // ---- supplements in words, as they stand on a bag, in Shift_JIS: a line each
 
 // I, W or C.
-fn print_schedule(x: Supplement) {
+fn print_schedule(rt: &impl Print, x: Supplement) {
     if x.letter == b'I' {
-        return interval(x.on, x.off);
+        return interval(rt, x.on, x.off);
     }
     if x.letter == b'W' {
         let w = x.week;
-        return week(w);
+        return week(rt, w);
     }
     if x.letter == b'C' {
-        return times(x.period, x.count);
+        return times(rt, x.period, x.count);
     }
 }
 
-fn interval(on: u8, off: u8) {
-    print(b"  ");
-    print_number(on);
-    print(b"\x93\xfa\x95\x9e\x97\x70 "); // 日服用
-    print_number(off);
-    print(b"\x93\xfa\x8b\x78\x96\xf2\n"); // 日休薬
+fn interval(rt: &impl Print, on: u8, off: u8) {
+    print(rt, b"  ");
+    print_number(rt, on);
+    print(rt, b"\x93\xfa\x95\x9e\x97\x70 "); // 日服用
+    print_number(rt, off);
+    print(rt, b"\x93\xfa\x8b\x78\x96\xf2\n"); // 日休薬
 }
 
-fn week(w: Week) {
-    print(b" ");
-    weekday(w.sunday, b" \x93\xfa"); // 日
-    weekday(w.monday, b" \x8c\x8e"); // 月
-    weekday(w.tuesday, b" \x89\xce"); // 火
-    weekday(w.wednesday, b" \x90\x85"); // 水
-    weekday(w.thursday, b" \x96\xd8"); // 木
-    weekday(w.friday, b" \x8b\xe0"); // 金
-    weekday(w.saturday, b" \x93\x79"); // 土
-    print(b"\n");
+fn week(rt: &impl Print, w: Week) {
+    print(rt, b" ");
+    weekday(rt, w.sunday, b" \x93\xfa"); // 日
+    weekday(rt, w.monday, b" \x8c\x8e"); // 月
+    weekday(rt, w.tuesday, b" \x89\xce"); // 火
+    weekday(rt, w.wednesday, b" \x90\x85"); // 水
+    weekday(rt, w.thursday, b" \x96\xd8"); // 木
+    weekday(rt, w.friday, b" \x8b\xe0"); // 金
+    weekday(rt, w.saturday, b" \x93\x79"); // 土
+    print(rt, b"\n");
 }
 
-fn weekday(meant: u8, name: &[u8]) {
+fn weekday(rt: &impl Print, meant: u8, name: &[u8]) {
     if meant == 1 {
-        print(name)
+        print(rt, name)
     }
 }
 
-fn times(period: u8, count: u8) {
-    print(b"  ");
-    each(period);
-    print_number(count);
-    print(b"\x89\xf1\n"); // 回
+fn times(rt: &impl Print, period: u8, count: u8) {
+    print(rt, b"  ");
+    each(rt, period);
+    print_number(rt, count);
+    print(rt, b"\x89\xf1\n"); // 回
 }
 
-fn each(period: u8) {
+fn each(rt: &impl Print, period: u8) {
     if period == b'Y' {
-        return print(b"\x94\x4e"); // 年
+        return print(rt, b"\x94\x4e"); // 年
     }
     if period == b'M' {
-        return print(b"\x8c\x8e"); // 月
+        return print(rt, b"\x8c\x8e"); // 月
     }
-    print(b"\x8f\x54") // 週
+    print(rt, b"\x8f\x54") // 週
 }
 
 // The days of every month, or those of the twelve months from the issue month on, a month a line.
-fn print_days(issue: u8, set: DaySet) {
-    month(0, set.cells[0]);
+fn print_days(rt: &impl Print, issue: u8, set: DaySet) {
+    month(rt, 0, set.cells[0]);
     let mut ahead: u8 = 0;
     while ahead < 12 {
         let m = month_ahead(issue, ahead);
         let mask = set.cells[m as usize];
-        month(m, mask);
+        month(rt, m, mask);
         ahead += 1;
     }
 }
@@ -297,61 +297,61 @@ fn month_ahead(issue: u8, ahead: u8) -> u8
     (issue % 12 + ahead + 11) % 12 + 1
 }
 
-fn month(m: u8, mask: u32) {
+fn month(rt: &impl Print, m: u8, mask: u32) {
     if mask == 0 {
         return;
     }
-    print(b"  ");
-    month_name(m);
+    print(rt, b"  ");
+    month_name(rt, m);
     let mut d: u8 = 1;
     let mut left = mask;
     while d < 32 {
-        day(d, left % 2);
+        day(rt, d, left % 2);
         left /= 2;
         d += 1;
     }
-    print(b"\n");
+    print(rt, b"\n");
 }
 
-fn month_name(m: u8) {
+fn month_name(rt: &impl Print, m: u8) {
     if m == 0 {
-        return print(b"\x96\x88\x8c\x8e"); // 毎月
+        return print(rt, b"\x96\x88\x8c\x8e"); // 毎月
     }
-    print_number(m);
-    print(b"\x8c\x8e") // 月
+    print_number(rt, m);
+    print(rt, b"\x8c\x8e") // 月
 }
 
-fn day(d: u8, bit: u32) {
+fn day(rt: &impl Print, d: u8, bit: u32) {
     if bit == 0 {
         return;
     }
-    print(b" ");
-    print_number(d);
-    print(b"\x93\xfa") // 日
+    print(rt, b" ");
+    print_number(rt, d);
+    print(rt, b"\x93\xfa") // 日
 }
 
 // ---- texts, numbers and columns
 
-fn print(t: &[u8]) {
-    io::write_all(libc::STDOUT_FILENO, t);
+fn print(rt: &impl Print, t: &[u8]) {
+    streams::write_all(rt, t);
 }
 
-fn print_number(n: u8) {
-    io::print_decimal(libc::STDOUT_FILENO, n as u64);
+fn print_number(rt: &impl Print, n: u8) {
+    streams::print_decimal(rt, n as u64);
 }
 
 // A text on a line of its own, from the third column on.
-fn print_line(t: &[u8]) {
-    print(b"  ");
-    print(t);
-    print(b"\n");
+fn print_line(rt: &impl Print, t: &[u8]) {
+    print(rt, b"  ");
+    print(rt, t);
+    print(rt, b"\n");
 }
 
 // Spaces, from a column on up to another.
-fn fill(from: usize, to: usize) {
+fn fill(rt: &impl Print, from: usize, to: usize) {
     let mut at = from;
     while at < to {
-        print(b" ");
+        print(rt, b" ");
         at += 1;
     }
 }
@@ -367,9 +367,9 @@ fn first(t: &[u8], n: usize) -> &[u8]
 }
 
 // At the right end of so many columns, and past it rather than cut.
-fn print_right(p: Piece, width: usize) {
+fn print_right(rt: &impl Print, p: Piece, width: usize) {
     let bytes = p.bytes;
     let n = p.length;
-    fill(n, width);
-    print(first(&bytes, n));
+    fill(rt, n, width);
+    print(rt, first(&bytes, n));
 }

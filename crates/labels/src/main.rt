@@ -2,17 +2,18 @@
 #![tactic(auto)]
 
 // Room for the longest sheet, and for one byte more by which a longer one is known.
-fn main() {
+fn main(rt: HostRuntime) {
     let mut room = [0u8; 16385];
-    label_into(&mut room);
+    label_into(&rt, &mut room);
 }
 
 // The array as a slice: its length is known by its type.
-fn label_into(room: &mut [u8; 16385]) {
-    label_from(room);
+fn label_into(rt: &(impl Input + Print), room: &mut [u8; 16385]) {
+    label_from(rt, room);
 }
 
-fn label_from(room: &mut [u8]) {
-    let n = io::read_full(libc::STDIN_FILENO, room);
-    label::sheet(&room[0..n]);
+fn label_from(rt: &(impl Input + Print), room: &mut [u8]) {
+    let mut input = rt.reader();
+    let n = streams::read_full(&mut input, room);
+    label::sheet(rt, &room[0..n]);
 }

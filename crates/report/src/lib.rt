@@ -8,49 +8,49 @@ ghost use Rattle.reader.specs.File.{check_file};
 use reader::Checked;
 use record::Refusal;
 
-fn words(text: &[u8]) {
-    io::write_all(libc::STDOUT_FILENO, text);
+fn words(rt: &impl Print, text: &[u8]) {
+    streams::write_all(rt, text);
 }
 
 // A name and a number, after a space.
-fn named(name: &[u8], n: usize) {
-    words(name);
-    io::print_decimal(libc::STDOUT_FILENO, n as u64);
+fn named(rt: &impl Print, name: &[u8], n: usize) {
+    words(rt, name);
+    streams::print_decimal(rt, n as u64);
 }
 
 // Where a record's refusal stands; for 29 the code's own number and place too.
-fn at_record(f: Refusal) {
-    named(b" record ", f.at);
+fn at_record(rt: &impl Print, f: Refusal) {
+    named(rt, b" record ", f.at);
     if f.field != 0 {
-        named(b" field ", f.field);
+        named(rt, b" field ", f.field);
     }
     if f.fault.number == 29 {
-        named(b" code ", f.code as usize);
-        named(b" place ", f.fault.place);
+        named(rt, b" code ", f.code as usize);
+        named(rt, b" place ", f.fault.place);
     }
 }
 
-fn refusal(f: Refusal) {
-    named(b"refused ", f.fault.number as usize);
+fn refusal(rt: &impl Print, f: Refusal) {
+    named(rt, b"refused ", f.fault.number as usize);
     if f.fault.number <= 22 {
-        return named(b" offset ", f.at);
+        return named(rt, b" offset ", f.at);
     }
-    at_record(f)
+    at_record(rt, f)
 }
 
-fn answer(r: Checked) {
+fn answer(rt: &impl Print, r: Checked) {
     match r {
-        Checked::Records(n) => named(b"ok ", n),
-        Checked::Refused(f) => refusal(f),
+        Checked::Records(n) => named(rt, b"ok ", n),
+        Checked::Refused(f) => refusal(rt, f),
     }
 }
 
 // Checks a sheet, prints `ok N`, or `refused` with the number and its place, and hands back what it told.
-pub fn sheet(s: &[u8]) -> Checked
+pub fn sheet(rt: &impl Print, s: &[u8]) -> Checked
     ensures { said_check result ≡ check_file s.now }
 {
     let r = reader::check(s);
-    answer(r);
-    words(b"\n");
+    answer(rt, r);
+    words(rt, b"\n");
     r
 }

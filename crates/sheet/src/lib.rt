@@ -12,7 +12,7 @@ use reader::{Handed, State, Step};
 use record::Place;
 
 // The lent file, and where the reader is in it.
-#[derive(Drop)]
+#[derive(Clone, Copy)]
 pub struct Sheet<'a> {
     pub file: &'a [u8],
     pub state: State,

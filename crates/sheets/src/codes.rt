@@ -1,5 +1,4 @@
 // The codes of a sheet that is taken: each is written again from what it was read as, and compared with the sheet's own, character by character.
-use libc::STDOUT_FILENO;
 use reader::Handed;
 use record::{Record, SupplementCode, UsageCode};
 
@@ -27,17 +26,17 @@ fn more(n: u64) -> u64 {
 }
 
 // One line over all sheets.
-pub fn tell(a: Again) {
-    io::print_decimal(STDOUT_FILENO, a.usage);
-    io::write_all(STDOUT_FILENO, b" usage codes and ");
-    io::print_decimal(STDOUT_FILENO, a.supplementary);
-    io::write_all(STDOUT_FILENO, b" supplementary codes written again, ");
-    io::print_decimal(STDOUT_FILENO, a.different);
-    io::write_all(STDOUT_FILENO, b" of them differently\n");
+pub fn tell(rt: &impl Print, a: Again) {
+    streams::print_decimal(rt, a.usage);
+    streams::write_all(rt, b" usage codes and ");
+    streams::print_decimal(rt, a.supplementary);
+    streams::write_all(rt, b" supplementary codes written again, ");
+    streams::print_decimal(rt, a.different);
+    streams::write_all(rt, b" of them differently\n");
 }
 
 // Record by record; a sheet that is taken ends with no refusal.
-pub fn of_sheet(s: &[u8], so_far: Again) -> Again {
+pub fn of_sheet(rt: &impl Print, s: &[u8], so_far: Again) -> Again {
     let mut t = reader::open(s);
     let mut a = so_far;
     loop {
@@ -46,7 +45,7 @@ pub fn of_sheet(s: &[u8], so_far: Again) -> Again {
         let handed = step.next;
         match handed {
             Handed::Record(r) => {
-                a = of_record(s, at, r, a);
+                a = of_record(rt, s, at, r, a);
                 t = step.state;
             }
             Handed::Refused(_) => {
@@ -60,15 +59,15 @@ pub fn of_sheet(s: &[u8], so_far: Again) -> Again {
 }
 
 // The code of a record whose line begins at an offset: the third field of a 111, the fifth of a 181.
-fn of_record(s: &[u8], at: usize, r: Record, a: Again) -> Again {
+fn of_record(rt: &impl Print, s: &[u8], at: usize, r: Record, a: Again) -> Again {
     match r {
         Record::Usage(x) => {
             let code = x.code;
-            of_usage(field(s, at, 3), code, a)
+            of_usage(rt, field(s, at, 3), code, a)
         }
         Record::Supplement(x) => {
             let code = x.code;
-            of_supplement(field(s, at, 5), code, a)
+            of_supplement(rt, field(s, at, 5), code, a)
         }
         Record::Issue(_) => a,
         Record::Rp(_) => a,
@@ -77,38 +76,38 @@ fn of_record(s: &[u8], at: usize, r: Record, a: Again) -> Again {
     }
 }
 
-fn of_usage(read: &[u8], code: UsageCode, a: Again) -> Again {
+fn of_usage(rt: &impl Print, read: &[u8], code: UsageCode, a: Again) -> Again {
     match code {
         UsageCode::Is(i) => {
             let w = usage_writer::write(i);
             let written = w.code;
             let mut b = a;
             b.usage = more(b.usage);
-            compared(b, cells::same_16(written, sixteen(read)))
+            compared(rt, b, cells::same_16(written, sixteen(read)))
         }
         UsageCode::Empty => a,
     }
 }
 
-fn of_supplement(read: &[u8], code: SupplementCode, a: Again) -> Again {
+fn of_supplement(rt: &impl Print, read: &[u8], code: SupplementCode, a: Again) -> Again {
     match code {
         SupplementCode::Is(x) => {
             let w = supplement_writer::write(x);
             let written = w.code;
             let mut b = a;
             b.supplementary = more(b.supplementary);
-            compared(b, cells::same_8(written, eight(read)))
+            compared(rt, b, cells::same_8(written, eight(read)))
         }
         SupplementCode::Empty => a,
     }
 }
 
 // A code that comes out otherwise is told in its place too.
-fn compared(a: Again, same: bool) -> Again {
+fn compared(rt: &impl Print, a: Again, same: bool) -> Again {
     if same {
         return a;
     }
-    io::write_all(STDOUT_FILENO, b"  code written differently\n");
+    streams::write_all(rt, b"  code written differently\n");
     let mut b = a;
     b.different = more(b.different);
     b

@@ -9,22 +9,25 @@ mod codes;
 ghost use Rattle.std.specs.Prelude.{◌≡◌, true, ◌≤◌, ◌<◌, length};
 
 use codes::Again;
-use libc::STDOUT_FILENO;
 use reader::Checked;
+use std::fs::File;
+use std::io::Read;
+use std::rt::Files;
 
-fn main() {
+fn main(rt: HostRuntime) {
     let mut names = [0u8; 65536];
-    check_named(&mut names);
+    check_named(&rt, &mut names);
 }
 
 // The array as a slice: its length is known by its type.
-fn check_named(names: &mut [u8; 65536]) {
-    check_list(names);
+fn check_named(rt: &(impl Files + Input + Print), names: &mut [u8; 65536]) {
+    check_list(rt, names);
 }
 
-fn check_list(names: &mut [u8]) {
-    let n = io::read_full(libc::STDIN_FILENO, names);
-    check_each(&names[0..n]);
+fn check_list(rt: &(impl Files + Input + Print), names: &mut [u8]) {
+    let mut input = rt.reader();
+    let n = streams::read_full(&mut input, names);
+    check_each(rt, &names[0..n]);
 }
 
 // Where the name that begins at an offset ends: at its LF, or at the end of the list.
@@ -43,15 +46,15 @@ fn name_end(s: &[u8], at: usize) -> usize
 }
 
 // Every name of the list, and what became of the codes of all its sheets.
-fn check_each(names: &[u8]) {
+fn check_each(rt: &(impl Files + Print), names: &[u8]) {
     let mut at: usize = 0;
     let mut a = codes::none();
     while at < names.len() {
         let end = name_end(names, at);
-        a = tell_line(&names[at..end], a);
+        a = tell_line(rt, &names[at..end], a);
         at = end + 1;
     }
-    codes::tell(a)
+    codes::tell(rt, a)
 }
 
 // What a line asks of the file that it names.
@@ -73,79 +76,98 @@ fn begins(line: &[u8], word: &[u8]) -> bool
     cells::same_bytes(&line[0..n], word)
 }
 
-fn tell_line(line: &[u8], a: Again) -> Again {
+fn tell_line(rt: &(impl Files + Print), line: &[u8], a: Again) -> Again {
     if begins(line, b"labels ") {
-        return tell_file(&line[7..], Asked::Labels, a);
+        return tell_file(rt, &line[7..], Asked::Labels, a);
     }
     if begins(line, b"calendar ") {
-        return tell_file(&line[9..], Asked::Calendar, a);
+        return tell_file(rt, &line[9..], Asked::Calendar, a);
     }
-    tell_file(line, Asked::Sheet, a)
+    tell_file(rt, line, Asked::Sheet, a)
 }
 
 // A file that can't be opened is told as one, and never passes for any answer. The room is a calendar's: for the longest question, the longest
 // sheet, and one byte more by which a longer one is known.
-fn tell_file(name: &[u8], asked: Asked, a: Again) -> Again {
-    io::write_all(STDOUT_FILENO, name);
-    let fd = os::open_read(name);
-    if fd < 0 {
-        io::write_all(STDOUT_FILENO, b" cannot be opened\n");
-        return a;
+fn tell_file(rt: &(impl Files + Print), name: &[u8], asked: Asked, a: Again) -> Again {
+    streams::write_all(rt, name);
+    match opened(rt, name) {
+        Some(file) => {
+            let mut room = [0u8; 32768];
+            tell_into(rt, &mut room, file, asked, a)
+        }
+        None => {
+            streams::write_all(rt, b" cannot be opened\n");
+            a
+        }
     }
-    let mut room = [0u8; 32768];
-    let b = tell_into(&mut room, fd, asked, a);
-    libc::close(fd);
-    b
 }
 
-fn tell_into(room: &mut [u8; 32768], fd: i32, asked: Asked, a: Again) -> Again {
-    tell_from(room, fd, asked, a)
+// The file of that name, to be read. A name that is not UTF-8 names none.
+fn opened<R: Files>(rt: &R, name: &[u8]) -> Option<R::File> {
+    let path = str::from_utf8(name).ok()?;
+    File::open(rt, path).ok()
 }
 
-fn tell_from(room: &mut [u8], fd: i32, asked: Asked, a: Again) -> Again {
-    let n = io::read_full(fd, room);
-    tell_read(&room[0..n], asked, a)
+fn tell_into(
+    rt: &impl Print,
+    room: &mut [u8; 32768],
+    file: impl Read + Drop,
+    asked: Asked,
+    a: Again,
+) -> Again {
+    tell_from(rt, room, file, asked, a)
 }
 
-fn tell_read(s: &[u8], asked: Asked, a: Again) -> Again {
+fn tell_from(
+    rt: &impl Print,
+    room: &mut [u8],
+    mut file: impl Read + Drop,
+    asked: Asked,
+    a: Again,
+) -> Again {
+    let n = streams::read_full(&mut file, room);
+    tell_read(rt, &room[0..n], asked, a)
+}
+
+fn tell_read(rt: &impl Print, s: &[u8], asked: Asked, a: Again) -> Again {
     match asked {
         Asked::Sheet => {
-            io::write_all(STDOUT_FILENO, b" ");
-            check_sheet(s, a)
+            streams::write_all(rt, b" ");
+            check_sheet(rt, s, a)
         }
         Asked::Labels => {
-            io::write_all(STDOUT_FILENO, b"\n");
-            label::sheet(s);
+            streams::write_all(rt, b"\n");
+            label::sheet(rt, s);
             a
         }
         Asked::Calendar => {
-            io::write_all(STDOUT_FILENO, b" ");
-            dose_report::answer(s);
+            streams::write_all(rt, b" ");
+            dose_report::answer(rt, s);
             a
         }
     }
 }
 
-fn check_sheet(s: &[u8], a: Again) -> Again {
-    match report::sheet(s) {
+fn check_sheet(rt: &impl Print, s: &[u8], a: Again) -> Again {
+    match report::sheet(rt, s) {
         Checked::Records(_) => {
             let mut again = [0u8; 16384];
-            write_into(s, &mut again);
-            codes::of_sheet(s, a)
+            write_into(rt, s, &mut again);
+            codes::of_sheet(rt, s, a)
         }
         Checked::Refused(_) => a,
     }
 }
 
-fn write_into(s: &[u8], again: &mut [u8; 16384]) {
-    write_again(s, again);
+fn write_into(rt: &impl Print, s: &[u8], again: &mut [u8; 16384]) {
+    write_again(rt, s, again);
 }
 
-fn write_again(s: &[u8], again: &mut [u8]) {
+fn write_again(rt: &impl Print, s: &[u8], again: &mut [u8]) {
     let n = rewriter::rewrite(s, again);
     if cells::same_bytes(s, &again[0..n]) {
-        io::write_all(STDOUT_FILENO, b"  written back\n");
+        streams::write_all(rt, b"  written back\n");
         return;
     }
-    io::write_all(STDOUT_FILENO, b"  written differently\n");
+    streams::write_all(rt, b"  written differently\n");
 }
