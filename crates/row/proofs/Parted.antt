@@ -39,8 +39,10 @@ cut_marks (f ∷ fs) k at es h l =
     let e : get_or (cut_ends (k + 1) (at + length f + 1) fs (set es k (at + length f))) k 0 ≡ at + length f =
     cut_keeps fs (k + 1) (at + length f + 1) (set es k (at + length f)) k (omega arith)
     ∙ get_or-set_same es k (at + length f) 0 (omega (arith, l)) in
-    rw (lt-ltb k wide b, e, eq-eqb (at + length f) (at + length f) refl)
-    (cut_marks fs (k + 1) (at + length f + 1) (set es k (at + length f)) (omega arith) (length-set es k (at + length f) ∙ l))
+    let q : cut_ends k at (f ∷ fs) es ≡ cut_ends (k + 1) (at + length f + 1) fs (set es k (at + length f)) = rw (lt-ltb k wide b) refl in
+    subst (λ (xs : List ℕ). marks xs k at (f ∷ fs) ≡ true) (sym q)
+    (rw (e, eq-eqb (at + length f) (at + length f) refl)
+    (cut_marks fs (k + 1) (at + length f + 1) (set es k (at + length f)) (omega arith) (length-set es k (at + length f) ∙ l)))
 
 -- and they are counted, or are more than nine.
 cut_count_lem : (fs : List (List ℕ)) (k : ℕ) → k ≤ wide → cut_count k fs ≡ cond (ltb wide (k + length fs)) (wide + 1) (k + length fs)
