@@ -1,6 +1,6 @@
 -- The records: a text by its place in the file, which part of a record is in which field, and what a record leaves for those after it.
 -- Assumes nothing.
-use Rattle.std.specs.Prelude.{ℕ, ◌+◌, cond, List, [], ◌∷◌, ◌++◌, eqb}
+use Rattle.std.specs.Prelude.{ℕ, cond, List, [], ◌∷◌, ◌++◌, eqb}
 use Rattle.cells.specs.Test.{Answer, took, refused}
 use Rattle.text.specs.Lent.{text_or}
 use Rattle.date.specs.Date.{read_date, date}

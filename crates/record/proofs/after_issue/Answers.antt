@@ -1,0 +1,5 @@
+-- None is kept yet.
+use Rattle.record.proofs.after_issue.Goals as goal
+
+pub returns : goal.returns
+returns c = rw c.none-t.ensures
