@@ -3,12 +3,11 @@
 use Prim.Native.Nat.{ℕ, zero, suc, ◌+◌, ◌-◌, ◌<◌, ◌≤◌}
 use mathlib.Core.Path.{◌≡◌, refl, ◌∙◌, sym, ap}
 use mathlib.Core.List.{List, [], ◌∷◌, ◌++◌, append_assoc}
-use native.Mathlib.Nat.{zero-add, suc-add}
 use native.Mathlib.Omega.{arith}
 use borrow.Author.Tests.{le-leb, leb-false}
 use lib.Dec.{leb}
 use lib.ListN.{length, get_or, take, drop, length-take, length-drop}
-use lib.Seq.{slice, take_at, take-nil, drop_at, drop-drop}
+use lib.Seq.{slice, take_at, drop_at, drop-drop}
 use Rattle.cells.proofs.Split.{split as cases}
 use Rattle.line.specs.Fields.{join, nth}
 use Rattle.line.proofs.Laws.{part}

@@ -1,0 +1,8 @@
+-- From the cells by their places.
+use Rattle.record.specs.Record.{record_from}
+use Rattle.record_line.specs.Code.Built.{built_of}
+use Rattle.record_line.proofs.record_111.Goals as goal
+
+pub returns : goal.returns
+unfolding built_of record_from
+returns c ms p = rw (c.usage_at.ensures, c.placed.ensures, c.placed-2.ensures)
