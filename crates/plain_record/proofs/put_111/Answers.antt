@@ -1,0 +1,24 @@
+-- Number by number, then the code's.
+use Prim.Native.Nat.{ℕ}
+use mathlib.Core.Path.{◌∙◌, sym, ap}
+use mathlib.Core.List.{List, [], ◌∷◌}
+use lib.ListN.{length}
+use lib.Seq.{sets}
+use borrow.Author.Rules.{rules}
+use Rattle.plain_record.proofs.put_111.Goals as goal
+
+pub slice_bounds-put-end-in-Is : goal.slice_bounds-put-end-in-Is
+slice_bounds-put-end-in-Is c = sym (ap length c.put_usage.ensures)
+
+pub put-requires : goal.put-requires
+put-requires c = rw c.put_usage.ensures (search rules)
+
+pub returns-in-Is : goal.returns-in-Is
+returns-in-Is c =
+    let a = c.args in
+    let x = a.x in
+    rw c.in-Is.is
+    (c.put.ensures ∙ ap (λ (s : List ℕ). sets (sets a.n.now 0 (111 ∷ x.rp.0 ∷ x.kind ∷ x.name.from ∷ x.name.to ∷ x.times ∷ [])) 6 s) c.put_usage.ensures)
+
+pub returns-in_default : goal.returns-in_default
+returns-in_default c = rw c.in_default.is c.clear.ensures

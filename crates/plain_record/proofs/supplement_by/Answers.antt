@@ -1,0 +1,12 @@
+-- By its first number.
+use Rattle.cells.proofs.Tests.{tests}
+use Rattle.plain_record.specs.Records.{supplement_by}
+use Rattle.plain_record.proofs.supplement_by.Goals as goal
+
+pub returns-then-first-eq0 : goal.returns-then-first-eq0
+unfolding supplement_by
+returns-then-first-eq0 c = search tests
+
+pub returns : goal.returns
+unfolding supplement_by
+returns c = search tests
