@@ -8,9 +8,6 @@ use Rattle.cells.specs.Text.{among, index, digit, bytes}
 use Rattle.cells.specs.Test.{first, Answer, took, refused}
 use Rattle.cells.specs.Cells.{cells}
 use Rattle.usage.specs.Usage.{hour, used, in_table, in_pairs, timing, says, read_usage, no_occasions, no_hours, no_event}
-use Rattle.usage.specs.declared.Occasions.{Occasions}
-use Rattle.usage.specs.declared.Hours.{Hours}
-use Rattle.usage.specs.declared.Event.{Event}
 use Rattle.usage.specs.declared.Instruction.{Instruction}
 use Rattle.supplement.specs.Amount.{may, next, columns, figures_of, decimals_of, places_of}
 use Rattle.supplement.specs.Supplement.{last_day, empty_week, more_days, read_supplement, saying, no_week, no_days}
