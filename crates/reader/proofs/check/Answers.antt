@@ -14,7 +14,7 @@ open-t-requires c = tt
 pub loop-u-init : goal.loop-u-init
 loop-u-init c =
     let a = c.args in
-    subst (λ (t : State). Counts a.s.now t 1) (sym c.«open».ensures) (counts_one a.s.now)
+    subst (λ (t : State). Counts a.s.now t 1) (sym c.open-t.ensures) (counts_one a.s.now)
 
 pub pass-requires : goal.pass-requires
 pass-requires c = tt
