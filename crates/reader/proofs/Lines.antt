@@ -2,7 +2,7 @@
 -- Assumes nothing.
 use Prim.Native.Nat.{ℕ, ◌+◌, ◌<◌, ◌≤◌}
 use mathlib.Core.Path.{◌≡◌, refl, ◌∙◌, sym, ap}
-use mathlib.Core.Bool.{Bool, true, false}
+use mathlib.Core.Bool.{true, false}
 use mathlib.Core.List.{List, [], ◌∷◌, ◌++◌}
 use native.Mathlib.Nat.{add-zero, add_assoc}
 use native.Mathlib.Omega.{arith}
@@ -21,7 +21,6 @@ use Rattle.line.specs.Frame.{plain, plain_line, plain_lines, file, WellFramed, f
 use Rattle.line.specs.Fields.{push, split, line, fields_at}
 use Rattle.line.proofs.Laws.{framed, line_before}
 use Rattle.number.specs.Number.{shortest, read_number}
-use Rattle.supplement.specs.declared.Supplement.{Supplement}
 use Rattle.order.specs.Order.{some, header, directions, drug, records}
 use Rattle.order.specs.Next.{follow}
 use Rattle.field.specs.Field.{Context}

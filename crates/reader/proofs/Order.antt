@@ -2,7 +2,6 @@
 -- Assumes nothing.
 use Prim.Native.Nat.{ℕ, ◌+◌}
 use mathlib.Core.Path.{◌≡◌, refl, sym, ap, subst, ◌∙◌}
-use mathlib.Core.Bool.{true, false}
 use mathlib.Core.List.{List, [], ◌∷◌, ◌++◌, map, append-nil, append_assoc}
 use native.Mathlib.Omega.{arith}
 use borrow.Author.Tests.{eqb-true}
@@ -19,14 +18,14 @@ use Rattle.row.specs.Row.{read_row}
 use Rattle.row.specs.declared.Row.{Row}
 use Rattle.record.specs.Record.{number_of, start, after, supplements, record_from}
 use Rattle.record_line.specs.Fields.{record_of}
-use Rattle.record_line.specs.Line.{refusal, from_row, read_fields, record_number, read_parts}
+use Rattle.record_line.specs.Line.{refusal, read_fields, record_number, read_parts}
 use Rattle.record.specs.declared.Sofar.{Sofar}
 use Rattle.record.specs.declared.Record.{Record}
 use Rattle.record.specs.declared.Refusal.{Refusal}
 use Rattle.record.specs.declared.Answer.{Answer}
 use Rattle.record.specs.declared.Answer.TheVariants.{Took, Refused}
 use Rattle.reader.specs.Open.{file_fault}
-use Rattle.reader.specs.File.{File, Ending, whole, stopped, lines_of, on, closing, in_list, read_lines, read_file}
+use Rattle.reader.specs.File.{File, whole, stopped, lines_of, on, closing, in_list, read_lines, read_file}
 
 -- a refusal is no record
 no_record : {P : Type 0} (f : Refusal) (r : Record) → Refused f ≡ Took r → P

@@ -1,9 +1,9 @@
 -- The tests of the whole file, before any record: "Files: 20, 21, 22".
 -- Assumes nothing.
-use Rattle.std.specs.Prelude.{ℕ, Bool, cond, not, List, [], ◌∷◌, ◌++◌, leb, eqb, length, take}
+use Rattle.std.specs.Prelude.{ℕ, Bool, List, [], ◌∷◌, ◌++◌, leb, eqb, length, take}
 use Rattle.cells.specs.Limits.{file_most}
 use Rattle.cells.specs.Text.{bytes}
-use Rattle.cells.specs.Test.{test, fault, first}
+use Rattle.cells.specs.Test.{test, first}
 use Rattle.cells.specs.Same.{eqs}
 use Rattle.cells.specs.declared.Fault.{Fault}
 use Rattle.line.specs.Frame.{frame_fault}

@@ -1,8 +1,7 @@
 -- The records are counted as they are passed.
-use Prim.Native.Nat.{◌+◌, ◌-◌, ◌<◌}
+use Prim.Native.Nat.{◌+◌, ◌<◌}
 use mathlib.Core.Path.{sym, subst, ◌∙◌}
 use native.Mathlib.Omega.{arith}
-use borrow.Author.Rules.{rules}
 use lib.ListN.{length}
 use Rattle.reader.specs.declared.State.{State}
 use Rattle.reader.proofs.Laws.{Counts, counts_one, passed_more, passed_room, passed_less, passed_refused, passed_end}
