@@ -39,13 +39,13 @@ no_record : (e : Ending) → hands (ending_of e) ≡ true → ⊥
 no_record whole h = let z : ◌≡◌ {A = ℕ} 0 1 = cc in omega arith
 no_record (stopped f) h = let z : ◌≡◌ {A = ℕ} 0 1 = cc in omega arith
 
-tells_ends : (s : List ℕ) (t : State) (f : File) (a : Next) → Tells s t f → Ends s a t → a ≡ ending_of f.ending
-tells_ends s t f a p (here h e) =
+tells_ends : (s : List ℕ) (a : Next) (t : State) (f : File) → Tells s t f → Ends s a t → a ≡ ending_of f.ending
+tells_ends s a t f p (here h e) =
     by_rest s t f (λ w k q. e ∙ ap (λ (x : Turn). x.next) k ∙ ap (λ (g : File). ending_of g.ending) (sym q))
     (λ r g k n q. absurd (let b : true ≡ false = sym (ap hands k) ∙ h in let z : ◌≡◌ {A = ℕ} 0 1 = cc in omega arith)) p
-tells_ends s t f a p (later h e) =
+tells_ends s a t f p (later h e) =
     by_rest s t f (λ w k q. absurd (no_record w (sym (ap (λ (x : Turn). hands x.next) k) ∙ h)))
-    (λ r g k n q. tells_ends s (next_record s t).state g a n e ∙ ap (λ (x : File). ending_of x.ending) (sym q)) p
+    (λ r g k n q. tells_ends s a (next_record s t).state g n e ∙ ap (λ (x : File). ending_of x.ending) (sym q)) p
 
 pub ends_file : (s : List ℕ) (a : Next) → Ends s a (open_file s) → a ≡ ending_of (read_file s).ending
-ends_file s a e = tells_ends s (open_file s) (read_file s) a (from_opening s) e
+ends_file s a e = tells_ends s a (open_file s) (read_file s) (from_opening s) e
