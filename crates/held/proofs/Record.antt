@@ -2,7 +2,7 @@
 -- Assumes nothing.
 use Prim.Native.Nat.{ℕ, zero, suc, ◌+◌, ◌-◌, ◌<◌, ◌≤◌}
 use mathlib.Core.Path.{◌≡◌, refl, ◌∙◌, sym, ap, subst}
-use mathlib.Core.Bool.{Bool, true, false}
+use mathlib.Core.Bool.{true, false}
 use mathlib.Core.List.{List, [], ◌∷◌, ◌++◌, map}
 use native.Mathlib.Omega.{arith}
 use borrow.Author.Tests.{eqb-true, le-leb}
@@ -14,7 +14,6 @@ use Rattle.line.specs.Fields.{split, join, nth}
 use Rattle.line.proofs.Laws.{split_join}
 use Rattle.number.specs.Number.{shortest, read_number}
 use Rattle.number.specs.Print.{print_number}
-use Rattle.supplement.specs.declared.Supplement.{Supplement}
 use Rattle.field.specs.Field.{Context, valued}
 use Rattle.row.specs.Table.{typed, rules_from, rules, only_with}
 use Rattle.record.specs.Record.{text_at, record_from}

@@ -2,7 +2,6 @@
 -- Assumes nothing.
 use Prim.Native.Nat.{ℕ}
 use mathlib.Core.Path.{◌≡◌}
-use mathlib.Core.Bool.{Bool}
 use mathlib.Core.List.{List}
 use native.Mathlib.Omega.{arith}
 use borrow.Author.Tests.{eqb-true}
@@ -12,7 +11,6 @@ use Rattle.cells.specs.Test.{Answer, took, refused}
 use Rattle.number.specs.Number.{read_number}
 use Rattle.number.specs.Print.{print_number}
 use Rattle.number.proofs.Laws as numbers
-use Rattle.supplement.specs.declared.Supplement.{Supplement}
 use Rattle.order.specs.Order.{some, header, directions, drug, records}
 use Rattle.order.specs.Next.{follow}
 use Rattle.field.specs.Field.{Context}
