@@ -12,7 +12,6 @@ use Rattle.record.specs.declared.Place.{Place}
 use Rattle.record.specs.declared.Answer.{Answer}
 use Rattle.record.specs.declared.Answer.TheVariants.{Took, Refused}
 use Rattle.record.specs.declared.Record.{Record}
-use Rattle.record.specs.declared.Record.TheVariants.{Issue, Rp, Usage, Supplement as Supply, Drug, Kept}
 use Rattle.held.specs.Held.{lent_held, usage_value, supplement_value, print, parts}
 
 -- A part of a line: a number, a text in the lent bytes, or one in the bytes that the record has of its own.

@@ -1,15 +1,10 @@
 -- Part by part.
-use borrow.Author.Rules.{rules}
 use mathlib.Core.List.{[], ◌∷◌}
-use Rattle.entry.proofs.parts_51.Statement.{statement}
-use Rattle.entry.proofs.parts_51.Tie as tie
+use Rattle.entry.proofs.parts_51.Goals as goal
 
-day-requires : tie.Need-day-requires
-day-requires c κs = search rules
-
-returns : tie.Need-returns
+pub returns : goal.returns
 returns c =
-    let o = c.before.before.before.before.before.day.ensures in
+    let o = c.day-piece.ensures in
     λ i.
     record {
       count = 2;
@@ -19,6 +14,3 @@ returns c =
       to = 0 ∷ (o i).length ∷ 0 ∷ 0 ∷ 0 ∷ 0 ∷ 0 ∷ 0 ∷ 0 ∷ 0 ∷ 0 ∷ 0 ∷ 0 ∷ [];
       own = (o i).bytes;
     }
-
-pub parts-51-spec : {M : Type 1} → statement M
-parts-51-spec = tie.close (tie.spec day-requires returns)
