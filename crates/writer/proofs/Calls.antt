@@ -11,7 +11,6 @@ use lib.ListN.{length, set, length-append}
 use lib.Seq.{sets}
 use Rattle.cells.specs.Limits.{file_most}
 use Rattle.cells.specs.Text.{bytes}
-use Rattle.supplement.specs.declared.Supplement.{Supplement}
 use Rattle.order.specs.Next.{closes}
 use Rattle.field.specs.Field.{context}
 use Rattle.record.specs.Record.{start, after}

@@ -1,7 +1,6 @@
 -- By the tests in their order.
 use mathlib.Core.Bool.{false}
 use mathlib.Core.Path.{ap, ◌∙◌}
-use borrow.Author.Rules.{rules}
 use Rattle.record.specs.declared.Sofar.{Sofar}
 use Rattle.laid.specs.Laid.{Put}
 use Rattle.entry.specs.Entry.{Entry}
