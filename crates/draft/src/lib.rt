@@ -60,5 +60,10 @@ pub fn add(out: &mut [u8], told: Told, r: Record, lent: &[u8]) -> Told
 pub fn finish(out: &mut [u8], told: Told) -> Told
     ensures { record { put = result; buffer = out.new } ≡ close_buffer out.old told.state }
 {
-    close(Draft { out, told }).told
+    let d = Draft {
+        out: &mut *out,
+        told,
+    };
+    let e = close(d);
+    e.told
 }
