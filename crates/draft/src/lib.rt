@@ -41,6 +41,20 @@ pub fn close<'a>(d: Draft<'a>) -> Draft<'a>
     Draft { out: d.out, told }
 }
 
+// The draft that is there of a buffer and what the last call told, with one record more;
+fn grown<'a, 'b>(out: &'a mut [u8], told: Told, r: Record, lent: &'b [u8]) -> Draft<'a>
+    ensures { result ≡ left out.entry (put_record out.old told.state r lent.now) }
+{
+    put(Draft { out, told }, r, lent)
+}
+
+// and with the end.
+fn ended<'a>(out: &'a mut [u8], told: Told) -> Draft<'a>
+    ensures { result ≡ left out.entry (close_buffer out.old told.state) }
+{
+    close(Draft { out, told })
+}
+
 // The same three calls on a buffer and what the last call told: each makes the draft that is there, and lets go of it. They speak of no draft, so
 // whoever calls them needs no walk by hand.
 pub fn begin(out: &mut [u8]) -> Told
@@ -53,17 +67,12 @@ pub fn begin(out: &mut [u8]) -> Told
 pub fn add(out: &mut [u8], told: Told, r: Record, lent: &[u8]) -> Told
     ensures { record { put = result; buffer = out.new } ≡ put_record out.old told.state r lent.now }
 {
-    put(Draft { out, told }, r, lent).told
+    grown(out, told, r, lent).told
 }
 
 // The end.
 pub fn finish(out: &mut [u8], told: Told) -> Told
     ensures { record { put = result; buffer = out.new } ≡ close_buffer out.old told.state }
 {
-    let d = Draft {
-        out: &mut *out,
-        told,
-    };
-    let e = close(d);
-    e.told
+    ended(out, told).told
 }
