@@ -33,7 +33,7 @@ loop-e-preserved c =
     let a = c.args in
     let l = c.loop-e in
     elim c.if-mask-e-eq1.branch [
-      then-mask-e-eq1 w ↦ (let f = ap length (since_in a.mask l.e (omega arith) (omega arith) w.if-mask-e-eq1.true) in (omega arith, omega arith, omega arith, omega arith))
+      | then-mask-e-eq1 w ↦ (let f = ap length (since_in a.mask l.e (omega arith) (omega arith) w.if-mask-e-eq1.true) in (omega arith, omega arith, omega arith, omega arith))
       | else-mask-e-eq1 w ↦ (let f = ap length (since_out a.mask l.e (omega arith) (omega arith) w.if-mask-e-eq1.false) in (omega arith, omega arith, omega arith, omega arith))
     ]
 
