@@ -2,7 +2,7 @@
 -- Assumes nothing.
 use Prim.Native.Nat.{ℕ, suc, ◌+◌, ◌≤◌}
 use mathlib.Core.Path.{◌≡◌, refl, ◌∙◌, sym, ap, subst}
-use mathlib.Core.Bool.{Bool, true, false}
+use mathlib.Core.Bool.{true, false}
 use mathlib.Core.List.{List, [], ◌∷◌, ◌++◌, map, append_assoc, append-nil}
 use mathlib.Core.Logic.{◌↔◌}
 use native.Mathlib.Omega.{arith}
@@ -187,32 +187,32 @@ module _ (s : List ℕ) where
       let v : version_line s ≡ true = its_version s w.lines w.some w.bytes (ap (λ (x : List (List ℕ)). get_or x 0 []) (sym q) ∙ o.version) in
       simp (le-leb _ _ o.most, (framed s).1 w, v)
 
-  of_stops : (f : Refusal) (rs : List Record) (ls : List (List ℕ)) → lines_of s ≡ bytes "JAHIS5" ∷ ls → Opens s → FileRefusal s rs f →
+  of_stops : (rs : List Record) (f : Refusal) (ls : List (List ℕ)) → lines_of s ≡ bytes "JAHIS5" ∷ ls → Opens s → FileRefusal s rs f →
       Stops 8 start [] [] ls rs f
   unfolding bytes
-  of_stops f rs ls e o (too_long h) = absurd (omega (arith, o.most))
-  of_stops f rs ls e o (frame {at = k} h p) = absurd (no_place s k o.framed p)
-  of_stops f rs ls e o (version h w n) = absurd (n o.version)
-  of_stops f rs ls e o (refused.FileRefusal.line q h w) =
+  of_stops rs f ls e o (too_long h) = absurd (omega (arith, o.most))
+  of_stops rs f ls e o (frame {at = k} h p) = absurd (no_place s k o.framed p)
+  of_stops rs f ls e o (version h w n) = absurd (n o.version)
+  of_stops rs f ls e o (refused.FileRefusal.line q h w) =
       at_line (omega (arith, ap length e))
       (subst
       (λ (x : List (List ℕ)). WrongLine (map number_of rs) (leaving start rs) (supplied [] rs) (start_after 0 x (suc (length rs))) (get_or x (suc (length rs)) []) f) e w)
-  of_stops f rs ls e o (refused.FileRefusal.end q h p w) =
+  of_stops rs f ls e o (refused.FileRefusal.end q h p w) =
       let k : start_after 0 (lines_of s) (suc (length rs)) ≡ start_after 8 ls (length rs) = ap (λ (x : List (List ℕ)). start_after 0 x (suc (length rs))) e in
       subst (λ (i : ℕ). Stops 8 start [] [] ls rs (refusal 32 i)) (sym k) (at_end (omega (arith, ap length e)) w)
 
   -- one that does not
-  of_fault : (f : Refusal) (rs : List Record) → ((file_fault s).number ≡ 0 → ⊥) → FileRefusal s rs f → refusal (file_fault s).number (file_fault s).place ≡ f
+  of_fault : (rs : List Record) (f : Refusal) → ((file_fault s).number ≡ 0 → ⊥) → FileRefusal s rs f → refusal (file_fault s).number (file_fault s).place ≡ f
   unfolding file_fault first
-  of_fault f rs z (too_long h) = simp (lt-leb _ _ h)
-  of_fault f rs z (frame {at = k} h p) =
+  of_fault rs f z (too_long h) = simp (lt-leb _ _ h)
+  of_fault rs f z (frame {at = k} h p) =
       frame_cases s (λ w e. absurd (no_place s k w p)) (λ j q e. simp (le-leb _ _ h, e) (ap (refusal 21) (one_place s j k q p)))
-  of_fault f rs z (version h w n) =
+  of_fault rs f z (version h w n) =
       frame_cases s
       (λ v e. cases (version_line s) (λ b. absurd (z (simp (le-leb _ _ h, e, b)))) (λ b. simp (le-leb _ _ h, e, b)))
       (λ j q e. absurd (no_place s j w q))
-  of_fault f rs z (refused.FileRefusal.line o h w) = absurd (z (no_fault o))
-  of_fault f rs z (refused.FileRefusal.end o h p w) = absurd (z (no_fault o))
+  of_fault rs f z (refused.FileRefusal.line o h w) = absurd (z (no_fault o))
+  of_fault rs f z (refused.FileRefusal.end o h p w) = absurd (z (no_fault o))
 
   -- A file that is refused so ends so.
   pub file_told : (f : Refusal) → FileRefusal s (read_file s).records f → (read_file s).ending ≡ stopped f
@@ -223,8 +223,8 @@ module _ (s : List ℕ) where
       let o = opens s z in
       let e = its_lines s o.rest o.plain o.bytes in
       let v : FileRefusal s (read_lines 8 start [] o.rest).records f = simp (a, o.lines) at w in
-      simp (a, o.lines) (lines_told f o.rest 8 start [] [] at_start refl (of_stops f _ o.rest e (opened s o.rest z o.plain o.bytes e) v)))
-      (λ a. simp a (ap stopped (of_fault f _ (eqb-false _ _ a) w)))
+      simp (a, o.lines) (lines_told f o.rest 8 start [] [] at_start refl (of_stops _ f o.rest e (opened s o.rest z o.plain o.bytes e) v)))
+      (λ a. simp a (ap stopped (of_fault _ f (eqb-false _ _ a) w)))
 
   -- From opening on a call tells a refusal exactly when the records are handed out and the file is refused so.
   pub file_exactly : (n : ℕ) (f : Refusal) → (call n s (open_file s) ≡ Refuses f) ↔ ((length (read_file s).records ≤ n) × FileRefusal s (read_file s).records f)
