@@ -56,7 +56,7 @@ fn ended<'a>(out: &'a mut [u8], told: Told) -> Draft<'a>
 }
 
 // The same three calls on a buffer and what the last call told: each makes the draft that is there, and lets go of it. They speak of no draft, so
-// whoever calls them needs no walk by hand.
+// whoever calls them carries no struct with what was lent.
 pub fn begin(out: &mut [u8]) -> Told
     ensures { record { put = result; buffer = out.new } ≡ open_buffer out.old }
 {

@@ -78,7 +78,7 @@ fn last<'a>(r: Sheet<'a>) -> Handed
 }
 
 // How a file ends: the end, or its refusal. A sheet is opened and read to its end. It, `begin` and `step` speak of no sheet, so whoever calls them
-// needs no walk by hand.
+// carries no struct with what was lent.
 pub fn walk(file: &[u8]) -> Handed
     ensures { said_next result ≡ ending_of (read_file file.now).ending }
 {
