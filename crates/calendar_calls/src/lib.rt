@@ -8,7 +8,6 @@ ghost use Rattle.day.specs.Day.{day as day_by};
 ghost use Rattle.dose_calendar.specs.Calendar.{calendar_of};
 ghost use Rattle.calendar_calls.specs.Calls.{Tells};
 
-use course::Answer;
 use told::REFUSAL;
 
 // The doses of each of so many days of an RP, from a start date on.
@@ -26,10 +25,10 @@ pub extern "C" fn yws_calendar(
     ensures { Tells (calendar_of file.now rp (day_by year month day) days (length doses.old)) doses.old result refusal.new doses.new }
 {
     match dose_calendar::fill(file, rp, year, month, day, days, doses) {
-        Answer::Filled => {
+        Ok(()) => {
             *refusal = [0; REFUSAL];
             0
         }
-        Answer::Refused(f) => told::put_refusal(f, refusal),
+        Err(f) => told::put_refusal(f, refusal),
     }
 }

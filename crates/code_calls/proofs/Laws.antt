@@ -19,12 +19,13 @@ use Rattle.supplement.specs.declared.Supplement.{Supplement}
 use Rattle.supplement_writer.specs.Print.{raw as raw_supplement}
 use Rattle.supplement_writer.proofs.Laws.{back as supplement_back, one_code as one_supplement_code}
 use Rattle.days_writer.specs.Set.{said}
-use Rattle.days_writer.specs.declared.Wrote.{Wrote}
 use Rattle.days_writer.proofs.Laws.{one_written}
 use Rattle.plain.specs.Codes.{usage_numbers, instruction_of, supplement_numbers, supplement_of}
 use Rattle.plain.proofs.Read.{usage_held, supplement_held}
 use Rattle.code_calls.specs.Answers.{number, or_count}
 use Rattle.code_calls.specs.Calls.{TellsSet}
+use Rattle.std.specs.Prelude.{Result, ℕ}
+use Rattle.cells.specs.declared.Fault.{Fault}
 
 -- writing a usage code
 pub one_usage : (before : List ℕ) (i : Instruction) (n m : ℕ) (c d : List ℕ) →
@@ -42,8 +43,8 @@ pub one_set : (issue : ℕ) (cells before a b : List ℕ) (n m counted k l : ℕ
 one_set issue cells before a b n m counted k l p q =
     let e = one_written issue cells before a b p.answer q.answer p.writes q.writes in (
       e.0,
-      p.returns ∙ ap (λ (w : Wrote). number (said w)) e.1 ∙ sym q.returns,
-      p.counts ∙ ap (λ (w : Wrote). or_count (said w) counted) e.1 ∙ sym q.counts,
+      p.returns ∙ ap (λ (w : Result ℕ Fault). number (said w)) e.1 ∙ sym q.returns,
+      p.counts ∙ ap (λ (w : Result ℕ Fault). or_count (said w) counted) e.1 ∙ sym q.counts,
     )
 
 -- a code that was read, handed to the writer as what it was read as, is written as the code

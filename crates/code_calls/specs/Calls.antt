@@ -1,13 +1,13 @@
 -- What each call returns, and what it leaves in the lent arrays: document 01's number; "a refusal returns only its numbers; lent bytes stay".
 -- Assumes nothing.
-use Rattle.std.specs.Prelude.{ℕ, ◌≡◌, List, [], ◌∷◌}
+use Rattle.std.specs.Prelude.{ℕ, ◌≡◌, List, [], ◌∷◌, Result}
 use Rattle.cells.specs.Test.{Answer}
 use Rattle.date.specs.declared.Date.{Date}
 use Rattle.days_writer.specs.Set.{WritesSet, said}
 use Rattle.days.specs.declared.Run.{Run}
-use Rattle.days_writer.specs.declared.Wrote.{Wrote}
 use Rattle.plain.specs.Held.{unless0}
 use Rattle.code_calls.specs.Answers.{number, place, or_before, or_count, date_numbers, date_text}
+use Rattle.cells.specs.declared.Fault.{Fault}
 
 -- Reading a code: what is returned, its place, and the array after it.
 pub record Reads (A : Type 0) (numbers_of : A → List ℕ) (answer : Answer A) (before : List ℕ) (returned placed : ℕ) (after : List ℕ) : Type 0 where
@@ -23,7 +23,7 @@ pub record ReadsRun (run : Run) (before : List ℕ) (returned : ℕ) (refusal af
 
 -- Writing the run for a set: the bytes, the number and the count of one answer that meets the whole promise.
 pub record TellsSet (issue : ℕ) (cells before after : List ℕ) (returned counted count : ℕ) : Type 0 where
-  pub answer : Wrote
+  pub answer : Result ℕ Fault
   pub writes : WritesSet issue cells before after answer
   pub returns : returned ≡ number (said answer)
   pub counts : count ≡ or_count (said answer) counted

@@ -15,9 +15,9 @@ ghost use Rattle.plain.specs.Codes.{usage_numbers, instruction_of, supplement_nu
 ghost use Rattle.code_calls.specs.Answers.{number, or_before, or_count, make_styled, date_numbers, date_text};
 ghost use Rattle.code_calls.specs.Calls.{Reads, ReadsRun, TellsSet, Makes};
 
-use date::{Date, Made};
+use cells::Fault;
+use date::Date;
 use days::DaySet;
-use days_writer::Wrote;
 use plain::{SUPPLEMENT, USAGE};
 
 // ---- usage codes
@@ -27,12 +27,12 @@ pub fn usage_read(code: &[u8], numbers: &mut [u64; USAGE], place: &mut u64) -> u
     ensures { Reads Instruction usage_numbers (read_usage code.now) numbers.old result place.new numbers.new }
 {
     match usage::read(code) {
-        usage::Reading::Taken(i) => {
+        Ok(i) => {
             *place = 0;
             plain::put_usage(i, numbers);
             0
         }
-        usage::Reading::Refused(f) => {
+        Err(f) => {
             *place = f.place as u64;
             f.number
         }
@@ -59,12 +59,12 @@ pub fn supplement_read(code: &[u8], numbers: &mut [u64; SUPPLEMENT], place: &mut
     ensures { Reads Supplement supplement_numbers (read_supplement code.now) numbers.old result place.new numbers.new }
 {
     match supplement::read(code) {
-        supplement::Reading::Taken(x) => {
+        Ok(x) => {
             *place = 0;
             plain::put_supplement(x, numbers);
             0
         }
-        supplement::Reading::Refused(f) => {
+        Err(f) => {
             *place = f.place as u64;
             f.number
         }
@@ -87,22 +87,22 @@ pub fn supplement_write(numbers: &[u64; SUPPLEMENT], code: &mut [u8; 8]) -> u16
 // ---- runs and sets of days
 
 // The number of an answer: 0, or the refusal's.
-fn wrote_number(w: Wrote) -> u16
+fn wrote_number(w: Result<usize, Fault>) -> u16
     ensures { result ≡ number (said w) }
 {
     match w {
-        Wrote::Codes(_) => 0,
-        Wrote::Refused(f) => f.number,
+        Ok(_) => 0,
+        Err(f) => f.number,
     }
 }
 
 // How many codes; after a refusal what was there, here and below.
-fn count_after(w: Wrote, before: u64) -> u64
+fn count_after(w: Result<usize, Fault>, before: u64) -> u64
     ensures { result ≡ or_count (said w) before }
 {
     match w {
-        Wrote::Codes(n) => n as u64,
-        Wrote::Refused(_) => before,
+        Ok(n) => n as u64,
+        Err(_) => before,
     }
 }
 
@@ -132,7 +132,7 @@ pub fn set_write(issue: u8, days: &[u32; 13], out: &mut [u8], count: &mut u64) -
 // ---- dates
 
 // A date in a style: 1 western, 2 era, any other number for none named.
-fn made(year: u16, month: u8, day: u8, style: u8) -> Made
+fn made(year: u16, month: u8, day: u8, style: u8) -> Result<Date, Fault>
     ensures { said_date result ≡ make_styled year month day style }
 {
     if style == 1 {
@@ -144,33 +144,33 @@ fn made(year: u16, month: u8, day: u8, style: u8) -> Made
     Date::of(year, month, day)
 }
 
-fn made_number(m: Made) -> u16
+fn made_number(m: Result<Date, Fault>) -> u16
     ensures { result ≡ number (said_date m) }
 {
     match m {
-        Made::Day(_) => 0,
-        Made::None(f) => f.number,
+        Ok(_) => 0,
+        Err(f) => f.number,
     }
 }
 
-fn made_numbers(m: Made, before: [u64; 4]) -> [u64; 4]
+fn made_numbers(m: Result<Date, Fault>, before: [u64; 4]) -> [u64; 4]
     ensures { result ≡ or_before date_numbers (said_date m) before }
 {
     match m {
-        Made::Day(t) => [t.era as u64, t.year as u64, t.month as u64, t.day as u64],
-        Made::None(_) => before,
+        Ok(t) => [t.era as u64, t.year as u64, t.month as u64, t.day as u64],
+        Err(_) => before,
     }
 }
 
-fn made_text(m: Made, before: [u8; 8]) -> [u8; 8]
+fn made_text(m: Result<Date, Fault>, before: [u8; 8]) -> [u8; 8]
     ensures { result ≡ or_before date_text (said_date m) before }
 {
     match m {
-        Made::Day(t) => {
+        Ok(t) => {
             let text = date::print(t);
             text.bytes
         }
-        Made::None(_) => before,
+        Err(_) => before,
     }
 }
 

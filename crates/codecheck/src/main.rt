@@ -64,15 +64,15 @@ fn answer(rt: &impl Print, line: &[u8]) {
 
 fn on_usage(rt: &impl Print, code: &[u8]) {
     match usage::read(code) {
-        usage::Reading::Taken(i) => say::instruction(rt, i),
-        usage::Reading::Refused(f) => say::refusal(rt, f.number, f.place),
+        Ok(i) => say::instruction(rt, i),
+        Err(f) => say::refusal(rt, f.number, f.place),
     }
 }
 
 fn on_supplement(rt: &impl Print, code: &[u8]) {
     match supplement::read(code) {
-        supplement::Reading::Taken(x) => say::supplement(rt, x),
-        supplement::Reading::Refused(f) => say::refusal(rt, f.number, f.place),
+        Ok(x) => say::supplement(rt, x),
+        Err(f) => say::refusal(rt, f.number, f.place),
     }
 }
 
@@ -86,23 +86,23 @@ fn on_again(rt: &impl Print, code: &[u8]) {
 
 fn again_usage(rt: &impl Print, code: &[u8]) {
     match usage::read(code) {
-        usage::Reading::Taken(i) => {
+        Ok(i) => {
             let w = usage_writer::write(i);
             let written = w.code;
             say::same(rt, cells::same_16(written, ask::sixteen(code)))
         }
-        usage::Reading::Refused(f) => say::refusal(rt, f.number, f.place),
+        Err(f) => say::refusal(rt, f.number, f.place),
     }
 }
 
 fn again_supplement(rt: &impl Print, code: &[u8]) {
     match supplement::read(code) {
-        supplement::Reading::Taken(x) => {
+        Ok(x) => {
             let w = supplement_writer::write(x);
             let written = w.code;
             say::same(rt, cells::same_8(written, ask::eight(code)))
         }
-        supplement::Reading::Refused(f) => say::refusal(rt, f.number, f.place),
+        Err(f) => say::refusal(rt, f.number, f.place),
     }
 }
 
@@ -171,8 +171,8 @@ fn say_written(rt: &impl Print, month: u8, days: days::DaySet, room: usize) {
     if room <= 536 {
         let w = days_writer::write_run(month, days, &mut codes[0..room]);
         match w {
-            days_writer::Wrote::Codes(n) => say::codes(rt, n, &codes),
-            days_writer::Wrote::Refused(f) => say::refusal(rt, f.number, f.place),
+            Ok(n) => say::codes(rt, n, &codes),
+            Err(f) => say::refusal(rt, f.number, f.place),
         }
     }
 }

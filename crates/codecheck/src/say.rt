@@ -1,5 +1,6 @@
 // Answers in words, on standard output.
-use date::{Date, Made};
+use cells::Fault;
+use date::Date;
 use days::DaySet;
 use supplement::{Days, Supplement, Week};
 use usage::{Event, Hours, Instruction, Occasions};
@@ -64,10 +65,10 @@ fn day_text(rt: &impl Print, t: Date) {
     words(rt, first(&bytes, n));
 }
 
-pub fn made(rt: &impl Print, m: Made) {
+pub fn made(rt: &impl Print, m: Result<Date, Fault>) {
     match m {
-        Made::Day(t) => day_text(rt, t),
-        Made::None(f) => refusal(rt, f.number, f.place),
+        Ok(t) => day_text(rt, t),
+        Err(f) => refusal(rt, f.number, f.place),
     }
 }
 

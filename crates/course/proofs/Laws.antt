@@ -13,18 +13,18 @@ use Rattle.day.specs.declared.Day.{Day}
 use Rattle.course.specs.Plan.{Plan, Found, fixed}
 use Rattle.course.specs.Calendar.{Doses, unless, valid_days, valid_start, dose, doses, calendar_for, said}
 use Rattle.course.specs.Kept.{Keeps, doses_by, counted_by, calendar_by}
-use Rattle.course.specs.declared.Answer.{Answer}
-use Rattle.course.specs.declared.Answer.TheVariants.{Filled, Refused}
 use Rattle.course.specs.declared.Course.{Course}
 use Rattle.course.proofs.Kept.{same_doses, same_fixed}
 use Rattle.course.proofs.Refusals.{starts}
+use Rattle.std.specs.Prelude.{Err, Ok, Result, ⊤}
+use Rattle.record.specs.declared.Refusal.{Refusal}
 
 -- Two answers that say the same are the same.
-pub one_answer : (a b : Answer) → said a ≡ said b → a ≡ b
-one_answer Filled Filled e = refl
-one_answer Filled (Refused g) e = cc
-one_answer (Refused f) Filled e = cc
-one_answer (Refused f) (Refused g) e = cc
+pub one_answer : (a b : Result ⊤ Refusal) → said a ≡ said b → a ≡ b
+one_answer (Ok tt) (Ok tt) e = refl
+one_answer (Ok tt) (Err g) e = cc
+one_answer (Err f) (Ok tt) e = cc
+one_answer (Err f) (Err g) e = cc
 
 -- where the start is not taken, the doses do not count
 unasked : (b v f l : Bool) (ds es : List ℕ) → (v ≡ true → ds ≡ es) → unless b v f l ds ≡ unless b v f l es

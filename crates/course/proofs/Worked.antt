@@ -14,15 +14,15 @@ use Rattle.usage.specs.Usage.{no_occasions, no_hours, no_event}
 use Rattle.usage.specs.Times.{fixes_times}
 use Rattle.supplement.specs.Supplement.{saying, no_week, no_days}
 use Rattle.supplement.specs.declared.Supplement.{Supplement}
-use Rattle.record.specs.declared.UsageCode.{UsageCode}
-use Rattle.record.specs.declared.UsageCode.TheVariants.{Is as usage_is}
 use Rattle.course.specs.Plan.{Plan, Found, times_fixed, times_of, days_fixed}
 use Rattle.course.specs.Calendar.{in_week, in_window, on_date, given, dose, doses, valid_days, valid_start, no, calendar_for}
+use Rattle.std.specs.Prelude.{Option, Some}
+use Rattle.usage.specs.declared.Instruction.{Instruction}
 
 -- A usage of kind 2, so often a day.
-abbrev times : ℕ → UsageCode
+abbrev times : ℕ → Option Instruction
 times n =
-    usage_is
+    Some
     (record {
       class = 1;
       detail = 0;

@@ -1,6 +1,6 @@
 -- Document 02, ticket 3: "dose calendar for the packing machine".
 -- Assumes nothing.
-use Rattle.std.specs.Prelude.{ℕ, zero, suc, ◌+◌, ◌*◌, ◌%◌, Bool, true, false, cond, ◌&&◌, ◌||◌, List, [], ◌∷◌, ◌++◌, map, leb, ltb, eqb, length, get_or, drop}
+use Rattle.std.specs.Prelude.{ℕ, zero, suc, ◌+◌, ◌*◌, ◌%◌, Bool, true, false, cond, ◌&&◌, ◌||◌, List, [], ◌∷◌, ◌++◌, map, leb, ltb, eqb, length, get_or, drop, Err, Ok, Result, ⊤}
 use Rattle.cells.specs.Text.{among}
 use Rattle.cells.specs.Test.{fault}
 use Rattle.order.specs.Order.{among as stands}
@@ -12,8 +12,6 @@ use Rattle.supplement.specs.declared.Week.{Week}
 use Rattle.supplement.specs.declared.Supplement.{Supplement}
 use Rattle.record.specs.declared.Refusal.{Refusal}
 use Rattle.course.specs.Plan.{Plan, Found, fixed, times_of}
-use Rattle.course.specs.declared.Answer.{Answer}
-use Rattle.course.specs.declared.Answer.TheVariants.{Filled, Refused}
 
 -- ---- which days have a dose
 -- "I runs its days on, then its days off, from the start date": k days after it.
@@ -98,9 +96,9 @@ pub data Told : Type 0 where
   Refuses : Refusal → Told
 
 -- What the code answers.
-abbrev pub said : Answer → Told
-said Filled = Fills
-said (Refused f) = Refuses f
+abbrev pub said : Result ⊤ Refusal → Told
+said (Ok tt) = Fills
+said (Err f) = Refuses f
 
 -- What is told, and every place of the lent output after it: the doses, and behind them what stood there; "lent bytes stay" where it is refused.
 pub record Outcome : Type 0 where

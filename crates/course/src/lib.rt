@@ -13,13 +13,6 @@ use day::Day;
 use record::Refusal;
 use supplement::Week;
 
-// A calendar is filled, or why not.
-#[derive(Clone, Copy)]
-pub enum Answer {
-    Filled,
-    Refused(Refusal),
-}
-
 // On which days there is a dose.
 #[derive(Clone, Copy)]
 pub enum Rule {
@@ -230,10 +223,10 @@ fn first(begins: bool, valid: bool, fixed: bool, n: u32, room: usize) -> u16
     0
 }
 
-fn refused(number: u16) -> Answer
+fn refused(number: u16) -> Result<(), Refusal>
     ensures { said result ≡ Refuses (no_place number) }
 {
-    Answer::Refused(Refusal {
+    Err(Refusal {
         fault: Fault { number, place: 0 },
         at: 0,
         field: 0,
@@ -242,7 +235,7 @@ fn refused(number: u16) -> Answer
 }
 
 // The calendar of a course.
-fn tell(c: Course, marks: &[bool; 416], start: Day, n: u32, out: &mut [u8]) -> Answer
+fn tell(c: Course, marks: &[bool; 416], start: Day, n: u32, out: &mut [u8]) -> Result<(), Refusal>
     ensures { record { told = said result; output = out.new } ≡ answers (calendar_by c marks.now start n (length out.old)) out.old }
 {
     let rule = c.rule;
@@ -258,7 +251,7 @@ fn tell(c: Course, marks: &[bool; 416], start: Day, n: u32, out: &mut [u8]) -> A
         return refused(refusal);
     }
     lay(c, marks, start, n as usize, out);
-    Answer::Filled
+    Ok(())
 }
 
 // The doses of each of so many days of an RP, from a start date on, into the first places of `out`; or the refusal, and `out` as it was.
@@ -270,7 +263,7 @@ pub fn fill(
     day: u32,
     n: u32,
     out: &mut [u8],
-) -> Answer
+) -> Result<(), Refusal>
     ensures { record { told = said result; output = out.new } ≡ answers (calendar_by c marks.now (day_by year month day) n (length out.old)) out.old }
 {
     tell(c, marks, start_of(year, month, day), n, out)

@@ -16,24 +16,24 @@ use Rattle.number.specs.Number.{none, figure, figures, value}
 use Rattle.cells.proofs.Split.{split}
 use Rattle.number.proofs.Sizes.{figures_parts}
 use Rattle.cells.specs.Test.{Answer, took}
-use Rattle.date.specs.declared.Made.{Made}
-use Rattle.date.specs.declared.Made.TheVariants.{Day, None}
 use Rattle.date.specs.Date.{said, leap, last_day, exists, eras, era_adds, day_number, in_force, date, in_style, in_its_era, is_date, western, era_date, held, read_date, make_western, make_era, make_date}
 use Rattle.date.specs.Print.{in_western, in_era, print_date}
 use Rattle.date.specs.declared.Date.{Date}
 use Rattle.date.proofs.Digits.{figure_last}
 use Rattle.date.proofs.Eras.{Lies, Spanned, numbered, styled, only, some}
 use Rattle.date.proofs.Style.{read_none, read_other, read_eight, read_seven, print_eight, print_seven, a_day, its_day, lies, numbers, era_year}
+use Rattle.std.specs.Prelude.{Err, Ok, Result}
+use Rattle.cells.specs.declared.Fault.{Fault}
 
 -- Two answers of which document 01's number and values are the same are equal.
-pub one_made : (a b : Made) → said a ≡ said b → a ≡ b
-one_made (Day t) (Day u) e = cc
-one_made (Day t) (None g) e = cc
-one_made (None f) (Day u) e = cc
-one_made (None f) (None g) e =
+pub one_made : (a b : Result Date Fault) → said a ≡ said b → a ≡ b
+one_made (Ok t) (Ok u) e = cc
+one_made (Ok t) (Err g) e = cc
+one_made (Err f) (Ok u) e = cc
+one_made (Err f) (Err g) e =
     let a : f.number ≡ g.number = cc in
     let b : f.place ≡ g.place = cc in
-    λ i. None (record { number = a i; place = b i })
+    λ i. Err (record { number = a i; place = b i })
 
 never : {A : Type 0} {t : Date} → none ≡ took t → A
 never h = absurd (let z : ◌≡◌ {A = ℕ} 0 1 = cc in omega arith)

@@ -1,11 +1,10 @@
 -- Document 01, "Date: YYYYMMDD from 1868 to 2099, or era, two-digit year 01 to 99, MMDD", with the eras of document 02's ticket 1.
 -- Assumes nothing.
-use Rattle.std.specs.Prelude.{ℕ, ◌+◌, ◌*◌, ◌%◌, Bool, cond, not, ◌&&◌, ◌||◌, List, [], ◌∷◌, leb, ltb, eqb, length, get_or, take, drop}
+use Rattle.std.specs.Prelude.{ℕ, ◌+◌, ◌*◌, ◌%◌, Bool, cond, not, ◌&&◌, ◌||◌, List, [], ◌∷◌, leb, ltb, eqb, length, get_or, take, drop, Err, Ok, Result}
 use Rattle.cells.specs.Test.{Answer, took, refused}
 use Rattle.number.specs.Number.{none, figures, value}
 use Rattle.date.specs.declared.Date.{Date}
-use Rattle.date.specs.declared.Made.{Made}
-use Rattle.date.specs.declared.Made.TheVariants.{Day, None}
+use Rattle.cells.specs.declared.Fault.{Fault}
 
 -- "The day must exist (Gregorian)."
 unfoldable pub leap : ℕ → Bool
@@ -96,9 +95,9 @@ abbrev pub era_date : List ℕ → Date
 era_date s = date (value 0 (take 1 s)) (era_adds (value 0 (take 1 s)) + two s 1) (two s 3) (two s 5)
 
 -- Document 01's number and values of what a date is read or made as.
-abbrev pub said : Made → Answer Date
-said (Day t) = took t
-said (None f) = refused f.number f.place
+abbrev pub said : Result Date Fault → Answer Date
+said (Ok t) = took t
+said (Err f) = refused f.number f.place
 
 -- The date, where it is one. "No such day or year is 27, place 0."
 abbrev pub held : Date → Answer Date

@@ -17,13 +17,6 @@ pub struct Date {
     pub day: u8,
 }
 
-// A day, or why there is none.
-#[derive(Clone, Copy)]
-pub enum Made {
-    Day(Date),
-    None(Fault),
-}
-
 // A date's characters, and 0 bytes after them; the length is 0 where the date is none.
 #[derive(Clone, Copy)]
 pub struct Text {
@@ -60,7 +53,7 @@ impl Date {
     pub const REIWA_OVER: u32 = 21000101;
 
     // A date in western style.
-    pub fn western(year: u16, month: u8, day: u8) -> Made
+    pub fn western(year: u16, month: u8, day: u8) -> Result<Date, Fault>
         ensures { said result ≡ make_western year month day }
     {
         held(Date {
@@ -72,7 +65,7 @@ impl Date {
     }
 
     // A date in the era in force on the day.
-    pub fn era(year: u16, month: u8, day: u8) -> Made
+    pub fn era(year: u16, month: u8, day: u8) -> Result<Date, Fault>
         ensures { said result ≡ make_era year month day }
     {
         held(Date {
@@ -84,7 +77,7 @@ impl Date {
     }
 
     // A date with no style named.
-    pub fn of(year: u16, month: u8, day: u8) -> Made
+    pub fn of(year: u16, month: u8, day: u8) -> Result<Date, Fault>
         ensures { said result ≡ make_date year month day }
     {
         Date::era(year, month, day)
@@ -202,20 +195,20 @@ fn is_date(t: Date) -> bool
 }
 
 // No such day or year: 27.
-fn none() -> Made
+fn none() -> Result<Date, Fault>
     ensures { said result ≡ no_day }
 {
-    Made::None(Fault {
+    Err(Fault {
         number: 27,
         place: 0,
     })
 }
 
-fn held(t: Date) -> Made
+fn held(t: Date) -> Result<Date, Fault>
     ensures { said result ≡ held_of t }
 {
     if is_date(t) {
-        return Made::Day(t);
+        return Ok(t);
     }
     none()
 }
@@ -235,7 +228,7 @@ fn wide(n: u8) -> u16
 }
 
 // Eight digits, YYYYMMDD.
-fn read_western(s: &[u8]) -> Made
+fn read_western(s: &[u8]) -> Result<Date, Fault>
     requires { (figures_of s.now ≡ true) × (length s.now ≡ 8) }
     ensures { said result ≡ read_date s.now }
 {
@@ -248,7 +241,7 @@ fn read_western(s: &[u8]) -> Made
 }
 
 // Seven digits: era, two-digit year, MMDD.
-fn read_era(s: &[u8]) -> Made
+fn read_era(s: &[u8]) -> Result<Date, Fault>
     requires { (figures_of s.now ≡ true) × (length s.now ≡ 7) }
     ensures { said result ≡ read_date s.now }
 {
@@ -265,7 +258,7 @@ fn read_era(s: &[u8]) -> Made
 }
 
 // A field's date.
-pub fn read(s: &[u8]) -> Made
+pub fn read(s: &[u8]) -> Result<Date, Fault>
     ensures { said result ≡ read_date s.now }
 {
     if !number::figures(s) {

@@ -18,8 +18,6 @@ use Rattle.cells.proofs.Alike.{and_left, and_right}
 use Rattle.supplement.specs.Supplement.{last_day, read_supplement, said}
 use Rattle.supplement.specs.declared.Days.{Days}
 use Rattle.supplement.specs.declared.Supplement.{Supplement}
-use Rattle.supplement.specs.declared.Reading.{Reading}
-use Rattle.supplement.specs.declared.Reading.TheVariants.{Taken}
 use Rattle.days.specs.Run.{Code, upto0, code_of, last_of, follows, allowed, eights, stopped, stop, codes_of, mask_of, days_at, set_of, no_days, takes, refuses, concluded, answers_in}
 use Rattle.days.specs.declared.Date.{Date}
 use Rattle.days.specs.Code.Good.{code, Good}
@@ -28,6 +26,8 @@ use Rattle.days.proofs.Under.{last_most}
 use Rattle.days.proofs.Rising.{mask_below, mask_append}
 use Rattle.days.proofs.Named.{Goods, goods_append, days_same, days_other, days_none, days_append, rise, length-set, set_at}
 use Rattle.days.proofs.Text.{date, refused_some}
+use Rattle.std.specs.Prelude.{Ok, Result}
+use Rattle.cells.specs.declared.Fault.{Fault}
 
 -- ---- the days of a code, up to its first 0
 
@@ -117,7 +117,7 @@ module _ (m : ℕ) (x : Days) (g : Good (code m (six_of x))) (k mask last : ℕ)
       rw e (left_more (six_of x) (upto0 (drop k (columns x))) mask last k l (upto0 (drop (k + 1) (columns x))) (get_or (columns x) k 0) (upto_more (columns x) k h z))
 
 -- what was read as a D code is good
-pub good_read : (r : Reading) (x : Supplement) → HasText r → r ≡ Taken x → x.letter ≡ 68 → Good (code_of x)
+pub good_read : (r : Result Supplement Fault) (x : Supplement) → HasText r → r ≡ Ok x → x.letter ≡ 68 → Good (code_of x)
 good_read r x p e l = (date p.text x (sym p.reads ∙ ap said e) l).good
 
 -- ---- which code may follow, by numbers

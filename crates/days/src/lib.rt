@@ -7,7 +7,8 @@ ghost use Rattle.days.specs.Run.{distance as distance_of, stop, stopped, answers
 ghost use Rattle.days.specs.Code.Good.{code, Good};
 ghost use Rattle.days.specs.Code.Walk.{six_of, Told, HasText, Dated, may_follow, halt_at, no_date as no_date_of};
 
-use supplement::{Days, Reading};
+use cells::Fault;
+use supplement::{Days, Supplement};
 
 // Thirteen masks, cell 0 for every month and cell m for month m; in a mask day d is bit d - 1.
 #[derive(Clone, Copy)]
@@ -97,13 +98,13 @@ fn date_of(month: u8, days: Days) -> Date
     }
 }
 
-fn date_in(r: Reading) -> Date
+fn date_in(r: Result<Supplement, Fault>) -> Date
     requires { HasText r }
     ensures { Dated (said_of r) result }
 {
     match r {
-        Reading::Refused(f) => no_date(f.number, f.place),
-        Reading::Taken(x) => {
+        Err(f) => no_date(f.number, f.place),
+        Ok(x) => {
             if x.letter == b'D' {
                 let days = x.days;
                 return date_of(x.month, days);

@@ -15,13 +15,13 @@ use Rattle.cells.proofs.Alike.{and_left, and_right}
 use Rattle.days.specs.Run.{Code, allowed, set_of, takes, a_month, read_run}
 use Rattle.days.proofs.Named.{Goods, length-set}
 use Rattle.days_writer.specs.Set.{writable, said, Writes, WritesSet}
-use Rattle.days_writer.specs.declared.Wrote.{Wrote}
-use Rattle.days_writer.specs.declared.Wrote.TheVariants.{Codes, Refused}
 use Rattle.days_writer.specs.Code.Print.{run_of, bytes_of, printed}
 use Rattle.days_writer.proofs.Back as Back
 use Rattle.days_writer.proofs.Sets.{can, could}
 use Rattle.days_writer.proofs.Again.{names, good_run, allowed_run, can_name, most_codes}
 use Rattle.days_writer.proofs.Whole.{some_code, bytes_length, reads, held}
+use Rattle.std.specs.Prelude.{Err, Ok, Result, ℕ}
+use Rattle.cells.specs.declared.Fault.{Fault}
 
 module _ (issue : ℕ) where
   -- a run that is read as a set is the run printed for the set
@@ -63,17 +63,17 @@ module _ (issue : ℕ) where
       omega (arith, ap length (back s cells h), bytes_length (run_of issue cells))
 
 -- two answers with one meaning are one answer
-pub same_said : (w v : Wrote) → said w ≡ said v → w ≡ v
-same_said (Codes m) (Codes n) h = let e : m ≡ n = cc in ap Codes e
-same_said (Codes m) (Refused f) h = absurd (let z : ◌≡◌ {A = ℕ} 0 1 = cc in omega arith)
-same_said (Refused f) (Codes n) h = absurd (let z : ◌≡◌ {A = ℕ} 0 1 = cc in omega arith)
-same_said (Refused f) (Refused g) h =
+pub same_said : (w v : Result ℕ Fault) → said w ≡ said v → w ≡ v
+same_said (Ok m) (Ok n) h = let e : m ≡ n = cc in ap Ok e
+same_said (Ok m) (Err f) h = absurd (let z : ◌≡◌ {A = ℕ} 0 1 = cc in omega arith)
+same_said (Err f) (Ok n) h = absurd (let z : ◌≡◌ {A = ℕ} 0 1 = cc in omega arith)
+same_said (Err f) (Err g) h =
     let a : f.number ≡ g.number = cc in
     let b : f.place ≡ g.place = cc in
-    ap₂ (λ (x y : ℕ). Refused (record { number = x; place = y })) a b
+    ap₂ (λ (x y : ℕ). Err (record { number = x; place = y })) a b
 
 -- two answers that meet the promise of writing are equal, and so are the buffers
-module _ (issue : ℕ) (cells before a b : List ℕ) (w v : Wrote) where
+module _ (issue : ℕ) (cells before a b : List ℕ) (w v : Result ℕ Fault) where
   alike : {x : Answer ℕ} {l : List ℕ} → (said w ≡ x) × (a ≡ l) → (said v ≡ x) × (b ≡ l) → (a ≡ b) × (w ≡ v)
   alike p q = (p.1 ∙ sym q.1, same_said w v (p.0 ∙ sym q.0))
 

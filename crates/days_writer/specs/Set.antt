@@ -1,11 +1,10 @@
 -- Which sets of days can be written, and what writing one answers and leaves in the lent buffer.
 -- Assumes nothing.
-use Rattle.std.specs.Prelude.{ℕ, ◌+◌, ◌/◌, ◌^◌, ◌≤◌, ◌<◌, ◌≡◌, Bool, true, false, not, ◌&&◌, ◌||◌, List, [], ◌∷◌, ◌++◌, eqb, leb, length, get_or, drop}
+use Rattle.std.specs.Prelude.{ℕ, ◌+◌, ◌/◌, ◌^◌, ◌≤◌, ◌<◌, ◌≡◌, Bool, true, false, not, ◌&&◌, ◌||◌, List, [], ◌∷◌, ◌++◌, eqb, leb, length, get_or, drop, Err, Ok, Result}
 use Rattle.cells.specs.Test.{Answer, took, refused}
 use Rattle.supplement.specs.Supplement.{last_day}
 use Rattle.days.specs.Run.{a_month, read_run, takes}
-use Rattle.days_writer.specs.declared.Wrote.{Wrote}
-use Rattle.days_writer.specs.declared.Wrote.TheVariants.{Codes, Refused}
+use Rattle.cells.specs.declared.Fault.{Fault}
 
 -- No cell holds a day.
 unfoldable pub empty : List ℕ → Bool
@@ -27,20 +26,20 @@ unfoldable pub writable : List ℕ → Bool
 writable s = not (empty s || (no_such_day 0 s || mixes s))
 
 -- Document 01's number and values of each answer: the number of codes, or the refusal.
-abbrev pub said : Wrote → Answer ℕ
-said (Codes n) = took n
-said (Refused f) = refused f.number f.place
+abbrev pub said : Result ℕ Fault → Answer ℕ
+said (Ok n) = took n
+said (Err f) = refused f.number f.place
 
 -- The run for a set is the one that reads as the set. "33 exactly when the buffer is shorter than the codes", and nothing changes; else the
 -- buffer begins with the run, and the rest of it is as it was.
-pub record Writes (issue : ℕ) (cells : List ℕ) (before after : List ℕ) (w : Wrote) : Type 0 where
+pub record Writes (issue : ℕ) (cells : List ℕ) (before after : List ℕ) (w : Result ℕ Fault) : Type 0 where
   pub run : List ℕ
   pub reads : read_run issue run ≡ takes cells
   pub short : length before < length run → (said w ≡ refused 33 0) × (after ≡ before)
   pub fits : length run ≤ length before → (said w ≡ took (length run / 8)) × (after ≡ run ++ drop (length run) before)
 
 -- "Sets: 10, 11, 33": the whole promise. A refusal changes no byte.
-pub record WritesSet (issue : ℕ) (cells : List ℕ) (before after : List ℕ) (w : Wrote) : Type 0 where
+pub record WritesSet (issue : ℕ) (cells : List ℕ) (before after : List ℕ) (w : Result ℕ Fault) : Type 0 where
   pub no_month : a_month issue ≡ false → (said w ≡ refused 10 0) × (after ≡ before)
   pub cannot : a_month issue ≡ true → writable cells ≡ false → (said w ≡ refused 11 0) × (after ≡ before)
   pub can : a_month issue ≡ true → writable cells ≡ true → Writes issue cells before after w

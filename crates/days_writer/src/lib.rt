@@ -11,13 +11,6 @@ ghost use Rattle.days_writer.specs.Code.Print.{month_at, in_sixes, run_of, bytes
 use cells::Fault;
 use days::DaySet;
 
-// How many codes were written, or the refusal.
-#[derive(Clone, Copy)]
-pub enum Wrote {
-    Codes(usize),
-    Refused(Fault),
-}
-
 // 2 to the number of days of every month, then of months 1 to 12: the first mask with a day that the month has not.
 const BEYOND: [u32; 13] = [
     0x8000_0000,
@@ -196,17 +189,17 @@ fn can_write(days: DaySet) -> bool
     empty_from(days, 1)
 }
 
-fn not_written(number: u16) -> Wrote
-    ensures { result ≡ Wrote.Refused (record { number = number; place = 0 }) }
+fn not_written(number: u16) -> Result<usize, Fault>
+    ensures { result ≡ Err (record { number = number; place = 0 }) }
 {
-    Wrote::Refused(Fault {
+    Err(Fault {
         number: number,
         place: 0,
     })
 }
 
 // Writes the run for a set into the front of the buffer.
-pub fn write_run(issue: u8, days: DaySet, out: &mut [u8]) -> Wrote
+pub fn write_run(issue: u8, days: DaySet, out: &mut [u8]) -> Result<usize, Fault>
     ensures { WritesSet issue days.cells out.old out.new result }
 {
     if issue == 0 {
@@ -221,7 +214,7 @@ pub fn write_run(issue: u8, days: DaySet, out: &mut [u8]) -> Wrote
             return not_written(33);
         }
         put_run(out, issue, days);
-        return Wrote::Codes(n);
+        return Ok(n);
     }
     not_written(11)
 }

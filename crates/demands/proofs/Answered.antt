@@ -12,7 +12,6 @@ use Rattle.cells.specs.Test.{fault, Answer, took, refused}
 use Rattle.cells.proofs.Split.{split}
 use Rattle.usage.specs.Usage as usage
 use Rattle.usage.specs.declared.Instruction.{Instruction}
-use Rattle.usage.specs.declared.Reading.TheVariants.{Taken, Refused as NotTaken}
 use Rattle.usage_writer.specs.Writes.{WritesUsage}
 use Rattle.usage_writer.specs.Print as usage_code
 use Rattle.usage_writer.specs.declared.Written.{Written as WrittenUsage}
@@ -27,10 +26,10 @@ use Rattle.order.proofs.Bools.{clash}
 use Rattle.days.specs.Run.{takes, a_month, read_run}
 use Rattle.days_writer.specs.Set.{writable, WritesSet}
 use Rattle.days_writer.specs.Code.Print.{printed}
-use Rattle.days_writer.specs.declared.Wrote.{Wrote}
-use Rattle.days_writer.specs.declared.Wrote.TheVariants.{Codes, Refused}
 use Rattle.days_writer.proofs.Laws as days
 use Rattle.demands.specs.One.{One}
+use Rattle.std.specs.Prelude.{Err, Ok, Result, ℕ}
+use Rattle.cells.specs.declared.Fault.{Fault}
 
 -- An instruction,
 pub usage_answered : (i : Instruction) → One WrittenUsage (WritesUsage i)
@@ -40,8 +39,8 @@ usage_answered i = by (usage.read_usage (usage_code.raw i)) refl
     one w k = record { answer = w; meets = k; only = λ v h. usage_laws.one_written i v w h k }
 
     by : (a : Answer Instruction) → usage.read_usage (usage_code.raw i) ≡ a → One WrittenUsage (WritesUsage i)
-    by (took j) e = one _ (usage_writer.written i (Taken j) (sym e))
-    by (refused n p) e = one _ (usage_writer.written i (NotTaken (fault n p)) (sym e))
+    by (took j) e = one _ (usage_writer.written i (Ok j) (sym e))
+    by (refused n p) e = one _ (usage_writer.written i (Err (fault n p)) (sym e))
 
 -- and a supplement.
 pub supplement_answered : (x : Supplement) → One WrittenSupplement (WritesSupplement x)
@@ -51,28 +50,28 @@ supplement_answered x =
 -- ---- a set of days
 module _ (issue : ℕ) (cells before : List ℕ) where
   -- an answer, with the buffer after it
-  abbrev pub Promise : List ℕ × Wrote → Type 0
+  abbrev pub Promise : List ℕ × Result ℕ Fault → Type 0
   Promise a = WritesSet issue cells before a.0 a.1
 
-  one : (after : List ℕ) (w : Wrote) → WritesSet issue cells before after w → One (List ℕ × Wrote) Promise
+  one : (after : List ℕ) (w : Result ℕ Fault) → WritesSet issue cells before after w → One (List ℕ × Result ℕ Fault) Promise
   one after w k =
       record {
         answer = (after, w);
         meets = k;
-        only = λ v h. let e = days.one_written issue cells before v.0 after v.1 w h k in ap₂ (λ (x : List ℕ) (y : Wrote). (x, y)) e.0 e.1;
+        only = λ v h. let e = days.one_written issue cells before v.0 after v.1 w h k in ap₂ (λ (x : List ℕ) (y : Result ℕ Fault). (x, y)) e.0 e.1;
       }
 
   -- the run for a set that can be written
-  run_writes : (r : List ℕ) → read_run issue r ≡ takes cells → a_month issue ≡ true → writable cells ≡ true → One (List ℕ × Wrote) Promise
+  run_writes : (r : List ℕ) → read_run issue r ≡ takes cells → a_month issue ≡ true → writable cells ≡ true → One (List ℕ × Result ℕ Fault) Promise
   run_writes r h m c =
       split (leb (length r) (length before))
-      (λ a. one (r ++ drop (length r) before) (Codes (length r / 8))
+      (λ a. one (r ++ drop (length r) before) (Ok (length r / 8))
       (record {
         no_month = λ f. clash m f;
         cannot = λ t f. clash c f;
         can = λ t u. record { run = r; reads = h; short = λ l. absurd (omega (arith, leb-true (length r) (length before) a)); fits = λ l. (refl, refl) };
       }))
-      (λ a. one before (Refused (fault 33 0))
+      (λ a. one before (Err (fault 33 0))
       (record {
         no_month = λ f. clash m f;
         cannot = λ t f. clash c f;
@@ -80,11 +79,11 @@ module _ (issue : ℕ) (cells before : List ℕ) where
       }))
 
   -- A set has thirteen cells.
-  pub set_answered : length cells ≡ 13 → One (List ℕ × Wrote) Promise
+  pub set_answered : length cells ≡ 13 → One (List ℕ × Result ℕ Fault) Promise
   set_answered l =
       split (a_month issue)
       (λ m. split (writable cells) (λ c. run_writes (printed issue cells) (days.can_be_written issue cells m l c) m c)
-      (λ c. one before (Refused (fault 11 0))
+      (λ c. one before (Err (fault 11 0))
       (record { no_month = λ f. clash m f; cannot = λ t f. (refl, refl); can = λ t u. clash u c })))
-      (λ m. one before (Refused (fault 10 0))
+      (λ m. one before (Err (fault 10 0))
       (record { no_month = λ f. (refl, refl); cannot = λ t f. clash t m; can = λ t u. clash t m }))

@@ -23,9 +23,10 @@ use Rattle.supplement_writer.specs.declared.Written.{Written as WrittenSupplemen
 use Rattle.supplement_writer.proofs.Laws as supplement
 use Rattle.days.specs.Run.{takes, a_month, read_run}
 use Rattle.days_writer.specs.Set.{writable, said, WritesSet}
-use Rattle.days_writer.specs.declared.Wrote.{Wrote}
 use Rattle.days_writer.proofs.Laws as days
 use Rattle.demands.proofs.Runs.{its_month, whole_codes}
+use Rattle.std.specs.Prelude.{Result, ℕ}
+use Rattle.cells.specs.declared.Fault.{Fault}
 
 -- ---- codes
 -- a writer of codes of which no two read as one record
@@ -47,7 +48,7 @@ supplement_written_back s x w = code_back Supplement read_supplement _ supplemen
 -- ---- runs
 module _ (issue : ℕ) where
   -- A run that was read is written as it stood, where there is room for it.
-  pub run_written_back : (s cells before after : List ℕ) (w : Wrote) → read_run issue s ≡ takes cells → WritesSet issue cells before after w →
+  pub run_written_back : (s cells before after : List ℕ) (w : Result ℕ Fault) → read_run issue s ≡ takes cells → WritesSet issue cells before after w →
       length s ≤ length before → (said w ≡ took (length s / 8)) × (after ≡ s ++ drop (length s) before)
   run_written_back s cells before after w h k l =
       let q = k.can (its_month issue s cells h) (days.only_these issue s cells h) in
@@ -55,7 +56,7 @@ module _ (issue : ℕ) where
       rw e at (q.fits (omega (arith, ap length e)))
 
   -- What a set is written as is read as the set.
-  pub run_read_back : (cells before after : List ℕ) (w : Wrote) → WritesSet issue cells before after w → (n : ℕ) → said w ≡ took n →
+  pub run_read_back : (cells before after : List ℕ) (w : Result ℕ Fault) → WritesSet issue cells before after w → (n : ℕ) → said w ≡ took n →
       read_run issue (take (8 * n) after) ≡ takes cells
   run_read_back cells before after w k n h =
       split (a_month issue)

@@ -18,18 +18,17 @@ use Rattle.record.specs.Record.{start, after, supplements}
 use Rattle.record_line.specs.Line.{read_parts}
 use Rattle.record.specs.declared.Record.{Record}
 use Rattle.record.specs.declared.Refusal.{Refusal}
-use Rattle.record.specs.declared.Answer.{Answer}
-use Rattle.record.specs.declared.Answer.TheVariants.{Took, Refused}
 use Rattle.reader.specs.Open.{file_fault}
 use Rattle.reader.specs.File.{File, Ending, whole, stopped, on, in_list, read_lines, read_file}
 use Rattle.reader.specs.Reader.{ending_of, answer_at}
 use Rattle.reader.specs.Said.{Refuses}
 use Rattle.reader.proofs.Lines.{opens}
+use Rattle.std.specs.Prelude.{Err, Ok, Result}
 
 -- ---- at most a record a line
-on_most : (n : ℕ) (rest : Record → File) → ((r : Record) → length (rest r).records ≤ n) → (a : Answer) → length (on a rest).records ≤ suc n
-on_most n rest h (Took r) = omega (arith, h r)
-on_most n rest h (Refused f) = omega arith
+on_most : (n : ℕ) (rest : Record → File) → ((r : Record) → length (rest r).records ≤ n) → (a : Result Record Refusal) → length (on a rest).records ≤ suc n
+on_most n rest h (Ok r) = omega (arith, h r)
+on_most n rest h (Err f) = omega arith
 
 lines_most : (ls : List (List ℕ)) (at : ℕ) (c : Sofar) (xs : List Supplement) → length (read_lines at c xs ls).records ≤ length ls
 unfolding read_lines

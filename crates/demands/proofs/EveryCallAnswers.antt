@@ -9,7 +9,6 @@ use mathlib.Core.List.{List}
 use lib.ListN.{length}
 use Rattle.cells.specs.Test.{took, refused}
 use Rattle.days_writer.specs.Set.{said, WritesSet}
-use Rattle.days_writer.specs.declared.Wrote.{Wrote}
 use Rattle.day.specs.declared.Day.{Day}
 use Rattle.record.specs.declared.Record.{Record}
 use Rattle.record.specs.declared.Refusal.{Refusal}
@@ -24,6 +23,8 @@ use Rattle.demands.specs.EachCall.{Answered, NumberAndPlace}
 use Rattle.demands.specs.Numbers.{SetNumber}
 use Rattle.demands.specs.Refused.{FileRefusal}
 use Rattle.demands.specs.Lent.{OnlyBetween, Refusing, Call, handed, answer}
+use Rattle.std.specs.Prelude.{Result, ℕ}
+use Rattle.cells.specs.declared.Fault.{Fault}
 use Rattle.demands.proofs.EachCall as each_call
 use Rattle.demands.proofs.Exactly as exactly
 use Rattle.demands.proofs.Runs as runs
@@ -73,7 +74,7 @@ one_refusal = exactly.one_refusal
 
 -- ---- ", and changes no byte of a lent buffer"
 -- A set of days that is refused: 10, 11 or 33, and the buffer is as it was.
-pub set_refused : (issue : ℕ) (cells before after : List ℕ) (w : Wrote) → WritesSet issue cells before after w → (n p : ℕ) → said w ≡ refused n p →
+pub set_refused : (issue : ℕ) (cells before after : List ℕ) (w : Result ℕ Fault) → WritesSet issue cells before after w → (n p : ℕ) → said w ≡ refused n p →
     SetNumber issue cells before n p × (after ≡ before)
 set_refused = runs.set_refused
 
@@ -88,7 +89,7 @@ calendar_refused = calendar.calendar_refused
 
 -- ---- "An answer that writes changes only the bytes it says it wrote."
 -- A set of days: the eight bytes of each code that it tells.
-pub set_written : (issue : ℕ) (cells before after : List ℕ) (w : Wrote) → WritesSet issue cells before after w → (n : ℕ) → said w ≡ took n →
+pub set_written : (issue : ℕ) (cells before after : List ℕ) (w : Result ℕ Fault) → WritesSet issue cells before after w → (n : ℕ) → said w ≡ took n →
     OnlyBetween 0 (8 * n) before after
 set_written = runs.set_written
 

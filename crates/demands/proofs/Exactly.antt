@@ -32,8 +32,6 @@ use Rattle.record.specs.Record.{number_of, start, after, supplements}
 use Rattle.record_line.specs.Line.{refusal, read_fields, read_parts}
 use Rattle.record.specs.declared.Record.{Record}
 use Rattle.record.specs.declared.Refusal.{Refusal}
-use Rattle.record.specs.declared.Answer.{Answer}
-use Rattle.record.specs.declared.Answer.TheVariants.{Took, Refused}
 use Rattle.reader.specs.Open.{version_line, file_fault}
 use Rattle.reader.specs.File.{File, stopped, lines_of, on, read_lines, read_file, in_list}
 use Rattle.reader.specs.Reader.{open_file, call, ending_of}
@@ -48,6 +46,7 @@ use Rattle.demands.specs.Refused as refused
 use Rattle.demands.proofs.Files.{same_number, not_wrong}
 use Rattle.demands.proofs.Calls.{told_end, told_refused}
 use Rattle.demands.proofs.Refused.{taken_stands, Stops, at_line, at_end, opened, its_lines, its_version, file_refused}
+use Rattle.std.specs.Prelude.{Err, Ok, Result}
 
 -- ---- a field
 module _ (c : Context) where
@@ -96,21 +95,21 @@ module _ (before : List ℕ) (c : Sofar) (xs : List Supplement) (at : ℕ) (l : 
   follows n v = ap (λ (q : ℕ). follow q (number_on l)) e ∙ (order.told before (number_on l) n b).1 v
 
   -- by its number,
-  told_order : (n : ℕ) → Verdict before (number_on l) n → (n ≡ 0 → ⊥) → read_parts c.last (in_list c.before xs) at (split l) ≡ Refused (refusal n at)
+  told_order : (n : ℕ) → Verdict before (number_on l) n → (n ≡ 0 → ⊥) → read_parts c.last (in_list c.before xs) at (split l) ≡ Err (refusal n at)
   unfolding read_parts read_fields
   told_order n v z =
       let k = follows n v in
-      simp (ne_eqb (follow c.last (number_on l)) 0 (λ y. z (sym k ∙ y))) (ap (λ (m : ℕ). Refused (refusal m at)) k)
+      simp (ne_eqb (follow c.last (number_on l)) 0 (λ y. z (sym k ∙ y))) (ap (λ (m : ℕ). Err (refusal m at)) k)
 
   -- by how many fields it has,
-  told_count : Verdict before (number_on l) 0 → counted (number_on l) (fields_in l) ≡ false → read_parts c.last (in_list c.before xs) at (split l) ≡ Refused (refusal 25 at)
+  told_count : Verdict before (number_on l) 0 → counted (number_on l) (fields_in l) ≡ false → read_parts c.last (in_list c.before xs) at (split l) ≡ Err (refusal 25 at)
   unfolding read_parts read_fields read_row
   told_count v a = simp (eq-eqb _ _ (follows 0 v), a)
 
   -- or by the first wrong one
   told_field : Verdict before (number_on l) 0 → counted (number_on l) (fields_in l) ≡ true → (k : ℕ) (r : Rule) (f : List ℕ) →
       Reaches (in_list c.before xs) 1 (rules (number_on l) (fields_in l)) (fields_in l) k r f → (w : Fault) (own : ℕ) → read_field (in_list c.before xs) r f ≡ refused_with w own →
-      (w.number ≡ 0 → ⊥) → read_parts c.last (in_list c.before xs) at (split l) ≡ Refused (at_field w.number at k own w.place)
+      (w.number ≡ 0 → ⊥) → read_parts c.last (in_list c.before xs) at (split l) ≡ Err (at_field w.number at k own w.place)
   unfolding read_parts read_fields
   told_field v a k r f h w own q z =
       let y : (read_field (in_list c.before xs) r f).fault.number ≡ w.number = ap (λ (t : Field). t.fault.number) q in
@@ -119,7 +118,7 @@ module _ (before : List ℕ) (c : Sofar) (xs : List Supplement) (at : ℕ) (l : 
       row_read (in_list c.before xs) (number_on l) from (fields_in l) k r f a h (λ i. z (sym y ∙ i)) ∙ ap (refused_at k) q in
       simp (eq-eqb _ _ (follows 0 v), u, ne_eqb w.number 0 z)
 
-  line_told : (f : Refusal) → WrongLine before c xs at l f → read_parts c.last (in_list c.before xs) at (split l) ≡ Refused f
+  line_told : (f : Refusal) → WrongLine before c xs at l f → read_parts c.last (in_list c.before xs) at (split l) ≡ Err f
   line_told f (unknown v) = told_order 23 v (λ z. omega arith)
   line_told f (hopeless v) = told_order 24 v (λ z. omega arith)
   line_told f (missing v) = told_order 32 v (λ z. omega arith)
@@ -157,11 +156,11 @@ on_told : (at : ℕ) (c : Sofar) (xs : List Supplement) (before : List ℕ) (l :
     (f : Refusal) (rest : Record → File) →
     ((r : Record) → Begins (before ++ (number_of r ∷ [])) →
     Stops (at + length l + 2) (after c.before r) (supplements xs r) (before ++ (number_of r ∷ [])) ls (rest r).records f → (rest r).ending ≡ stopped f) →
-    (a : Answer) → read_parts c.last (in_list c.before xs) at (split l) ≡ a → Stops at c xs before (l ∷ ls) (on a rest).records f → (on a rest).ending ≡ stopped f
-on_told at c xs before l ls b e f rest more (Took r) h w =
+    (a : Result Record Refusal) → read_parts c.last (in_list c.before xs) at (split l) ≡ a → Stops at c xs before (l ∷ ls) (on a rest).records f → (on a rest).ending ≡ stopped f
+on_told at c xs before l ls b e f rest more (Ok r) h w =
     more r (taken_stands before c xs at l b e r h) (of_others at c xs before l ls r (rest r).records f w)
-on_told at c xs before l ls b e f rest more (Refused g) h w =
-    let k : Refused g ≡ Refused f = sym h ∙ line_told before c xs at l b e f (of_first at c xs before l ls f w) in
+on_told at c xs before l ls b e f rest more (Err g) h w =
+    let k : Err g ≡ Err f = sym h ∙ line_told before c xs at l b e f (of_first at c xs before l ls f w) in
     let q : g ≡ f = cc in
     ap stopped q
 

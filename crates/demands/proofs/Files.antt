@@ -29,8 +29,6 @@ use Rattle.record.specs.Record.{number_of, start, after, supplements}
 use Rattle.record_line.specs.Fields.{record_of}
 use Rattle.record_line.specs.Line.{read_fields, record_number, read_parts}
 use Rattle.record.specs.declared.Record.{Record}
-use Rattle.record.specs.declared.Answer.{Answer}
-use Rattle.record.specs.declared.Answer.TheVariants.{Took, Refused}
 use Rattle.reader.specs.Open.{file_fault}
 use Rattle.reader.specs.File.{File, whole, taken, before, on, read_lines, read_file, in_list}
 use Rattle.reader.proofs.Laws.{sheet}
@@ -40,6 +38,8 @@ use Rattle.held.proofs.File.{never_whole}
 use Rattle.writer.proofs.Laws.{not_long, lines_read}
 use Rattle.demands.specs.Taken.{Passes, field_tests, FieldsPass, RightFields, fields_in, RightLine, RightLines, TakenFile}
 use Rattle.demands.proofs.Codes.{All, none_at_fault, all_passed}
+use Rattle.std.specs.Prelude.{Err, Ok, Result}
+use Rattle.record.specs.declared.Refusal.{Refusal}
 
 -- ---- fields
 module _ (c : Context) where
@@ -104,30 +104,30 @@ abbrev from_in : ℕ → List ℕ → ℕ
 from_in at l = at + length (get_or (split l) 0 []) + 1
 
 module _ (c : Sofar) (xs : List Supplement) (at : ℕ) (l : List ℕ) where
-  line_right : (r : Record) → read_parts c.last (in_list c.before xs) at (split l) ≡ Took r → RightLine c xs at l r
+  line_right : (r : Record) → read_parts c.last (in_list c.before xs) at (split l) ≡ Ok r → RightLine c xs at l r
   unfolding read_parts read_fields
   line_right r h =
       cases (eqb (follow c.last (record_number (split l))) 0)
       (λ a. cases (eqb (read_row (in_list c.before xs) (record_number (split l)) (from_in at l) (fields_in l)).fault.number 0)
       (λ b.
-      let k : Took (record_of (record_number (split l)) (from_in at l) (fields_in l)) ≡ Took r = simp (a, b) at h in
+      let k : Ok (record_of (record_number (split l)) (from_in at l) (fields_in l)) ≡ Ok r = simp (a, b) at h in
       record { fields = (row_right (in_list c.before xs) (record_number (split l)) (from_in at l) (fields_in l)).0 (eqb-true _ _ b); is = cc })
       (λ b. absurd (let k = simp (a, b) at h in let z : ◌≡◌ {A = ℕ} 0 1 = cc in omega arith)))
       (λ a. absurd (let k = simp a at h in let z : ◌≡◌ {A = ℕ} 0 1 = cc in omega arith))
 
-  line_taken : (r : Record) → follow c.last (record_number (split l)) ≡ 0 → RightLine c xs at l r → read_parts c.last (in_list c.before xs) at (split l) ≡ Took r
+  line_taken : (r : Record) → follow c.last (record_number (split l)) ≡ 0 → RightLine c xs at l r → read_parts c.last (in_list c.before xs) at (split l) ≡ Ok r
   unfolding read_parts read_fields
   line_taken r e t =
       let w : (read_row (in_list c.before xs) (record_number (split l)) (from_in at l) (fields_in l)).fault.number ≡ 0 =
       (row_right (in_list c.before xs) (record_number (split l)) (from_in at l) (fields_in l)).1 t.fields in
-      simp (eq-eqb _ _ e, eq-eqb _ _ w) (ap Took t.is)
+      simp (eq-eqb _ _ e, eq-eqb _ _ w) (ap Ok t.is)
 
 -- ---- lines
 on_right : (c : Sofar) (xs : List Supplement) (at : ℕ) (l : List ℕ) (ls : List (List ℕ)) (rest : Record → File) →
     ((r : Record) → (rest r).ending ≡ whole → RightLines (at + length l + 2) (after c.before r) (supplements xs r) ls (rest r).records) →
-    (a : Answer) → read_parts c.last (in_list c.before xs) at (split l) ≡ a → (on a rest).ending ≡ whole → RightLines at c xs (l ∷ ls) (on a rest).records
-on_right c xs at l ls rest more (Took r) e w = (line_right c xs at l r e, more r w)
-on_right c xs at l ls rest more (Refused f) e w = never_whole w
+    (a : Result Record Refusal) → read_parts c.last (in_list c.before xs) at (split l) ≡ a → (on a rest).ending ≡ whole → RightLines at c xs (l ∷ ls) (on a rest).records
+on_right c xs at l ls rest more (Ok r) e w = (line_right c xs at l r e, more r w)
+on_right c xs at l ls rest more (Err f) e w = never_whole w
 
 lines_right : (ls : List (List ℕ)) (at : ℕ) (c : Sofar) (xs : List Supplement) → (read_lines at c xs ls).ending ≡ whole →
     RightLines at c xs ls (read_lines at c xs ls).records
@@ -150,7 +150,7 @@ lines_taken (l ∷ ls) (r ∷ rs) earlier at c xs b e t w =
     let d : Begins (earlier ++ (number_of r ∷ [])) = record { rest = map number_of rs; whole = v } in
     let f : follow c.last (record_number (split l)) ≡ 0 =
     ap (follow c.last) (sym n) ∙ ap (λ (q : ℕ). follow q (number_of r)) e ∙ (stands earlier (number_of r) b).1 d in
-    ap (λ (a : Answer). on a (λ q. read_lines (at + length l + 2) (after c.before q) (supplements xs q) ls)) (line_taken c xs at l r f t.0)
+    ap (λ (a : Result Record Refusal). on a (λ q. read_lines (at + length l + 2) (after c.before q) (supplements xs q) ls)) (line_taken c xs at l r f t.0)
     ∙ ap (before r)
     (lines_taken ls rs (earlier ++ (number_of r ∷ [])) (at + length l + 2) (after c.before r) (supplements xs r) d
     (sym (last_is 0 (number_of r) earlier)) t.1 v)

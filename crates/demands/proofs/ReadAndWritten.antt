@@ -18,7 +18,6 @@ use Rattle.supplement_writer.specs.Writes.{WritesSupplement}
 use Rattle.supplement_writer.specs.declared.Written.{Written as WrittenSupplement}
 use Rattle.days.specs.Run.{takes, read_run}
 use Rattle.days_writer.specs.Set.{said, WritesSet}
-use Rattle.days_writer.specs.declared.Wrote.{Wrote}
 use Rattle.record.specs.declared.Record.{Record}
 use Rattle.reader.specs.File.{File, whole, taken, read_file}
 use Rattle.reader.specs.Reader.{open_file, call, answer_at}
@@ -28,6 +27,8 @@ use Rattle.writer.specs.Writer.{Left}
 use Rattle.writer.specs.Files.{Item, item, held_in, write_file, written_in, Holds}
 use Rattle.writer.proofs.Laws as writer
 use Rattle.demands.specs.Taken.{TakenUsage, TakenSupplement, TakenRun, TakenFile}
+use Rattle.std.specs.Prelude.{Result, ℕ}
+use Rattle.cells.specs.declared.Fault.{Fault}
 use Rattle.demands.proofs.Codes as codes
 use Rattle.demands.proofs.TakenRuns as taken_runs
 use Rattle.demands.proofs.Files as files
@@ -65,7 +66,7 @@ pub supplement_written_back : (s : List ℕ) (x : Supplement) (w : WrittenSupple
 supplement_written_back = back.supplement_written_back
 
 -- a run, into a buffer with room for it,
-pub run_written_back : (issue : ℕ) (s cells before after : List ℕ) (w : Wrote) → read_run issue s ≡ takes cells → WritesSet issue cells before after w →
+pub run_written_back : (issue : ℕ) (s cells before after : List ℕ) (w : Result ℕ Fault) → read_run issue s ≡ takes cells → WritesSet issue cells before after w →
     length s ≤ length before → (said w ≡ took (length s / 8)) × (after ≡ s ++ drop (length s) before)
 run_written_back = back.run_written_back
 
@@ -89,7 +90,7 @@ pub supplement_read_back : (x : Supplement) (w : WrittenSupplement) → WritesSu
 supplement_read_back x w k = k.reads
 
 -- the codes that writing a set of days tells,
-pub run_read_back : (issue : ℕ) (cells before after : List ℕ) (w : Wrote) → WritesSet issue cells before after w → (n : ℕ) → said w ≡ took n →
+pub run_read_back : (issue : ℕ) (cells before after : List ℕ) (w : Result ℕ Fault) → WritesSet issue cells before after w → (n : ℕ) → said w ≡ took n →
     read_run issue (take (8 * n) after) ≡ takes cells
 run_read_back = back.run_read_back
 

@@ -29,8 +29,6 @@ use Rattle.row.specs.Row.{fine, field_by_field, read_row}
 use Rattle.row.specs.declared.Row.{Row}
 use Rattle.record_line.specs.Line.{refusal, row_refusal, record_number, read_parts, line_after, line_at}
 use Rattle.record.specs.declared.Refusal.{Refusal}
-use Rattle.record.specs.declared.Answer.{Answer}
-use Rattle.record.specs.declared.Answer.TheVariants.{Took, Refused}
 use Rattle.reader.specs.Reader.{end_at, next_record, on as upon}
 use Rattle.reader.specs.declared.State.{State}
 use Rattle.reader.specs.Said.{Refuses}
@@ -40,6 +38,8 @@ use Rattle.demands.specs.Numbers as numbers
 use Rattle.demands.specs.Refused.{Reaches, here, next, CodeRefused, usage, supplement}
 use Rattle.demands.proofs.Codes.{usage_refused, supplement_refused}
 use Rattle.demands.proofs.Files.{field_right}
+use Rattle.std.specs.Prelude.{Err, Ok, Result}
+use Rattle.record.specs.declared.Record.{Record}
 
 -- ---- a field
 -- a code's own number and place
@@ -142,7 +142,7 @@ module _ (P : Refusal → Type 0) (last : ℕ) (c : Context) (at : ℕ) (parts :
       (λ m p k r f h w b. code m p k r f y a h w b) 1 (rules (record_number parts) (drop 1 parts)) (drop 1 parts) (fine _) (λ k r f h. h) refl (simp a at z)))
       (λ a. simp a (number y a))
 
-  pub by_parts : (f : Refusal) → read_parts last c at parts ≡ Refused f → P f
+  pub by_parts : (f : Refusal) → read_parts last c at parts ≡ Err f → P f
   unfolding read_parts
   by_parts f h =
       by_refused last c at (record_number parts) (at + length (get_or parts 0 []) + 1) (drop 1 parts) f h (λ z e. subst P e (order z))
@@ -160,7 +160,7 @@ by_order q n z =
 
 -- The numbers alone.
 pub by_number : (P : ℕ → Type 0) (last : ℕ) (c : Context) (at : ℕ) (parts : List (List ℕ)) →
-    ((n : ℕ) → RecordNumber n → P n) → ((n p : ℕ) → FieldNumber n p → P n) → P 29 → (f : Refusal) → read_parts last c at parts ≡ Refused f → P f.fault.number
+    ((n : ℕ) → RecordNumber n → P n) → ((n p : ℕ) → FieldNumber n p → P n) → P 29 → (f : Refusal) → read_parts last c at parts ≡ Err f → P f.fault.number
 by_number P last c at parts g n o =
     by_parts (λ f. P f.fault.number) last c at parts (λ z. g _ (by_order last (record_number parts) z)) (λ y a. g 25 numbers.RecordNumber.count)
     (λ m p k r f y a h b w. n m p b) (λ m p k r f y a h w b. o)
@@ -198,14 +198,14 @@ module _ (s : List ℕ) where
       n : ℕ
       n = t.at + length (join (fields_at s t.at)) + 2
 
-      by : (a : Answer) → read_parts t.sofar.last (context t.sofar.before) t.at (fields_at s t.at) ≡ a →
+      by : (a : Result Record Refusal) → read_parts t.sofar.last (context t.sofar.before) t.at (fields_at s t.at) ≡ a →
           (upon t (line_after t.sofar a n).answer (line_after t.sofar a n).next).next ≡ Refuses f → LineRefusal s t.at f
-      by (Took r) e k = absurd (let y : ◌≡◌ {A = ℕ} 0 1 = cc in omega arith)
-      by (Refused g) e k =
+      by (Ok r) e k = absurd (let y : ◌≡◌ {A = ℕ} 0 1 = cc in omega arith)
+      by (Err g) e k =
           let d : g ≡ f = cc in
           by_parts (LineRefusal s t.at) t.sofar.last (context t.sofar.before) t.at (fields_at s t.at)
           (λ z. numbers.LineRefusal.of_record (by_order t.sofar.last (record_number (fields_at s t.at)) z))
           (λ y a. numbers.LineRefusal.of_record numbers.RecordNumber.count)
           (λ m p j r g y a u b w. let v = in_line_lem (context t.sofar.before) (fields_at s t.at) _ j r g u in numbers.LineRefusal.of_field v.0 v.1 b)
           (λ m p j r g y a u w b. let v = in_line_lem (context t.sofar.before) (fields_at s t.at) _ j r g u in
-          numbers.LineRefusal.of_code v.0 v.1 (subst (λ (x : List ℕ). CodeNumber x m p) (sym v.2) (own_number_lem r g m p b))) f (e ∙ ap Refused d)
+          numbers.LineRefusal.of_code v.0 v.1 (subst (λ (x : List ℕ). CodeNumber x m p) (sym v.2) (own_number_lem r g m p b))) f (e ∙ ap Err d)

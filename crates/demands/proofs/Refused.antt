@@ -26,8 +26,6 @@ use Rattle.record.specs.Record.{number_of, start, after, supplements}
 use Rattle.record_line.specs.Line.{refusal, read_parts}
 use Rattle.record.specs.declared.Record.{Record}
 use Rattle.record.specs.declared.Refusal.{Refusal}
-use Rattle.record.specs.declared.Answer.{Answer}
-use Rattle.record.specs.declared.Answer.TheVariants.{Took, Refused}
 use Rattle.reader.specs.Open.{version_line, file_fault}
 use Rattle.reader.specs.File.{File, stopped, lines_of, on, read_lines, read_file, in_list}
 use Rattle.reader.proofs.Lines.{opens, lines_of_lem, after_line}
@@ -37,6 +35,7 @@ use Rattle.writer.proofs.Laws.{not_long}
 use Rattle.demands.specs.Refused.{start_after, leaving, supplied, number_on, WrongLine, unknown, hopeless, missing, field, code, Opens, FileRefusal, too_long, frame, version}
 use Rattle.demands.specs.Refused as refused
 use Rattle.demands.proofs.Refusals.{by_parts}
+use Rattle.std.specs.Prelude.{Err, Ok, Result}
 
 -- ---- a line
 module _ (before : List ℕ) (c : Sofar) (xs : List Supplement) (at : ℕ) (l : List ℕ) (b : Begins before) (e : c.last ≡ last_of 0 before) where
@@ -54,14 +53,14 @@ module _ (before : List ℕ) (c : Sofar) (xs : List Supplement) (at : ℕ) (l : 
   of_verdict n (order.Verdict.missing a h) z = missing (order.Verdict.missing a h)
 
   -- a line that is refused
-  line_wrong : (f : Refusal) → read_parts c.last (in_list c.before xs) at (split l) ≡ Refused f → WrongLine before c xs at l f
+  line_wrong : (f : Refusal) → read_parts c.last (in_list c.before xs) at (split l) ≡ Err f → WrongLine before c xs at l f
   line_wrong =
       by_parts (WrongLine before c xs at l) c.last (in_list c.before xs) at (split l) (λ z. of_verdict _ verdict z) (λ y a. refused.WrongLine.count (well_there y) a)
       (λ n p k r f y a h i w. field (record { stands = well_there y; count = a; reaches = h }) i w)
       (λ n p k r f y a h w i. code (record { stands = well_there y; count = a; reaches = h }) w i)
 
   -- the record of one that is taken stands well
-  pub taken_stands : (r : Record) → read_parts c.last (in_list c.before xs) at (split l) ≡ Took r → Begins (before ++ (number_of r ∷ []))
+  pub taken_stands : (r : Record) → read_parts c.last (in_list c.before xs) at (split l) ≡ Ok r → Begins (before ++ (number_of r ∷ []))
   unfolding read_parts
   taken_stands r h =
       let from : ℕ = at + length (get_or (split l) 0 []) + 1 in
@@ -92,12 +91,12 @@ module _ (at : ℕ) (c : Sofar) (xs : List Supplement) (before : List ℕ) (l : 
   by_line : Begins before → c.last ≡ last_of 0 before → (f : Refusal) (rest : Record → File) →
       ((r : Record) → Begins (before ++ (number_of r ∷ [])) → (rest r).ending ≡ stopped f →
       Stops (at + length l + 2) (after c.before r) (supplements xs r) (before ++ (number_of r ∷ [])) ls (rest r).records f) →
-      (a : Answer) → read_parts c.last (in_list c.before xs) at (split l) ≡ a → (on a rest).ending ≡ stopped f → Stops at c xs before (l ∷ ls) (on a rest).records f
-  by_line b e f rest more (Took r) h w = later r (rest r).records f (more r (taken_stands before c xs at l b e r h) w)
-  by_line b e f rest more (Refused g) h w =
+      (a : Result Record Refusal) → read_parts c.last (in_list c.before xs) at (split l) ≡ a → (on a rest).ending ≡ stopped f → Stops at c xs before (l ∷ ls) (on a rest).records f
+  by_line b e f rest more (Ok r) h w = later r (rest r).records f (more r (taken_stands before c xs at l b e r h) w)
+  by_line b e f rest more (Err g) h w =
       let q : g ≡ f = cc in
       at_line (omega arith)
-      (subst (λ (x : List ℕ). WrongLine x c xs at l f) (sym (append-nil before)) (line_wrong before c xs at l b e f (h ∙ ap Refused q)))
+      (subst (λ (x : List ℕ). WrongLine x c xs at l f) (sym (append-nil before)) (line_wrong before c xs at l b e f (h ∙ ap Err q)))
 
 by_lines : (f : Refusal) (ls : List (List ℕ)) (at : ℕ) (c : Sofar) (xs : List Supplement) (before : List ℕ) → Begins before → c.last ≡ last_of 0 before →
     (read_lines at c xs ls).ending ≡ stopped f → Stops at c xs before ls (read_lines at c xs ls).records f

@@ -21,11 +21,12 @@ use Rattle.days.specs.Run.{Code, code_of, allowed, eights, Stop, stopped, stop, 
 use Rattle.days.specs.declared.Run.{Run}
 use Rattle.schedule.specs.Schedule.{dates, date_run}
 use Rattle.days_writer.specs.Set.{writable, said, WritesSet}
-use Rattle.days_writer.specs.declared.Wrote.{Wrote}
 use Rattle.demands.specs.Numbers.{Comes, here, next, RunNumber, not_whole, empty, no_run, own, SetNumber, cannot, room}
 use Rattle.demands.specs.Numbers as numbers
 use Rattle.demands.specs.Lent.{OnlyBetween}
 use Rattle.demands.proofs.Codes.{supplement_refused, supplement_some}
+use Rattle.std.specs.Prelude.{Result, ℕ}
+use Rattle.cells.specs.declared.Fault.{Fault}
 
 -- ---- a run
 -- there are cs many codes cs are asked for
@@ -188,7 +189,7 @@ begins_only run before after to e l h =
       size = omega (arith, ap length h, length-append run (drop (length run) before), length-drop (length run) before);
     }
 
-module _ (issue : ℕ) (cells before after : List ℕ) (w : Wrote) (k : WritesSet issue cells before after w) where
+module _ (issue : ℕ) (cells before after : List ℕ) (w : Result ℕ Fault) (k : WritesSet issue cells before after w) where
   -- which answer it is
   by_set : {P : Type 0} → ((n p : ℕ) → SetNumber issue cells before n p → said w ≡ refused n p → after ≡ before → P) →
       ((n : ℕ) → said w ≡ took n → OnlyBetween 0 (8 * n) before after → P) → P

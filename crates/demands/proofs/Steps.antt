@@ -29,11 +29,11 @@ use Rattle.record_line.specs.Fields.{record_of}
 use Rattle.record_line.specs.Line.{record_number, read_parts}
 use Rattle.record.specs.declared.Record.{Record}
 use Rattle.record.specs.declared.Record.TheVariants.{Issue, Rp, Usage, Supplement as Supply, Drug, Kept}
-use Rattle.record.specs.declared.Answer.TheVariants.{Took}
 use Rattle.held.proofs.Field.{day_read}
 use Rattle.held.proofs.Row.{Fine}
 use Rattle.held.proofs.Taken.{taken}
 use Rattle.demands.proofs.Dates.{Reads}
+use Rattle.std.specs.Prelude.{Ok}
 
 -- ---- the order
 -- a record that may stand is known, and may
@@ -114,7 +114,7 @@ module _ (last : ℕ) (c : Context) where
       is m e = subst (λ (k : ℕ). follow last k ≡ 0) (eqb-true n m e) h
 
   -- A record that is taken is so.
-  pub stood : (at : ℕ) (ps : List (List ℕ)) (r : Record) → read_parts last c at ps ≡ Took r → Stood last r
+  pub stood : (at : ℕ) (ps : List (List ℕ)) (r : Record) → read_parts last c at ps ≡ Ok r → Stood last r
   unfolding read_parts
   stood at ps r h =
       let n : ℕ = record_number ps in

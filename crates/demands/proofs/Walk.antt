@@ -21,14 +21,8 @@ use Rattle.record.specs.declared.Sofar.{Sofar}
 use Rattle.row.specs.Table.{typed}
 use Rattle.record.specs.Record.{text_at, start, after, with_supplement, supplements}
 use Rattle.record_line.specs.Line.{read_parts}
-use Rattle.record.specs.declared.UsageCode.{UsageCode}
-use Rattle.record.specs.declared.UsageCode.TheVariants.{Is as usage_is, Empty as no_usage}
-use Rattle.record.specs.declared.SupplementCode.{SupplementCode}
-use Rattle.record.specs.declared.SupplementCode.TheVariants.{Is as supplement_is, Empty as no_supplement}
 use Rattle.record.specs.declared.Record.{Record}
 use Rattle.record.specs.declared.Record.TheVariants.{Issue, Rp, Usage, Supplement as Supply, Drug, Kept}
-use Rattle.record.specs.declared.Answer.{Answer}
-use Rattle.record.specs.declared.Answer.TheVariants.{Took, Refused}
 use Rattle.record_line.proofs.Leaves.{Keeps, keeps_on}
 use Rattle.reader.specs.Open.{file_fault}
 use Rattle.reader.specs.File.{File, whole, taken, lines_of, on, read_lines, read_file, in_list}
@@ -37,11 +31,14 @@ use Rattle.held.proofs.File.{never_whole}
 use Rattle.demands.specs.Blank.{date_in, dates_in, begins_rp, dates_upto}
 use Rattle.demands.proofs.Dates.{Reads, reads_append, only_dates, Noted, InRp, noted}
 use Rattle.demands.proofs.Steps.{no_header, after_51, after_101, Stood, stood}
+use Rattle.std.specs.Prelude.{Err, None, Ok, Option, Result, Some}
+use Rattle.usage.specs.declared.Instruction.{Instruction}
+use Rattle.record.specs.declared.Refusal.{Refusal}
 
 -- ---- the date codes of a record are those of its supplement
-no_usage_lem : (k : UsageCode) → date_in (usage_value k) ≡ []
-no_usage_lem (usage_is i) = refl
-no_usage_lem no_usage = refl
+no_usage_lem : (k : Option Instruction) → date_in (usage_value k) ≡ []
+no_usage_lem (Some i) = refl
+no_usage_lem None = refl
 
 no_optional : (n : ℕ) → date_in (optional n) ≡ []
 no_optional n = cases (eqb n 0) (λ e. rw e) (λ e. rw e)
@@ -50,9 +47,9 @@ no_texts : (fs : List (List ℕ)) → dates_in (map text fs) ≡ []
 no_texts [] = refl
 no_texts (f ∷ fs) = no_texts fs
 
-dates_181 : (k : SupplementCode) (xs : List Supplement) → (date_in (supplement_value k) ++ []) ++ only_dates xs ≡ only_dates (with_supplement [] k ++ xs)
-dates_181 (supplement_is x) xs = ap (λ (l : List Supplement). l ++ only_dates xs) (append-nil (date_in (supplement x)))
-dates_181 no_supplement xs = refl
+dates_181 : (k : Option Supplement) (xs : List Supplement) → (date_in (supplement_value k) ++ []) ++ only_dates xs ≡ only_dates (with_supplement [] k ++ xs)
+dates_181 (Some x) xs = ap (λ (l : List Supplement). l ++ only_dates xs) (append-nil (date_in (supplement x)))
+dates_181 None xs = refl
 
 -- The supplements up to the next RP.
 abbrev upto : List Record → List Supplement
@@ -127,13 +124,13 @@ closed c xs k l =
     rw (append-nil xs) (record { low = m.0; high = m.1; listed = k.keeps.listed; read = k.read })
 
 -- a supplement more
-more_read : (xs : List Supplement) (k : SupplementCode) → Reads xs → Reads (with_supplement [] k) → Reads (with_supplement xs k)
-more_read xs (supplement_is x) h r = reads_append xs (x ∷ []) h r
-more_read xs no_supplement h r = h
+more_read : (xs : List Supplement) (k : Option Supplement) → Reads xs → Reads (with_supplement [] k) → Reads (with_supplement xs k)
+more_read xs (Some x) h r = reads_append xs (x ∷ []) h r
+more_read xs None h r = h
 
-one_more : (xs ys : List Supplement) (k : SupplementCode) → with_supplement xs k ++ ys ≡ xs ++ (with_supplement [] k ++ ys)
-one_more xs ys (supplement_is x) = append_snoc xs x ys
-one_more xs ys no_supplement = refl
+one_more : (xs ys : List Supplement) (k : Option Supplement) → with_supplement xs k ++ ys ≡ xs ++ (with_supplement [] k ++ ys)
+one_more xs ys (Some x) = append_snoc xs x ys
+one_more xs ys None = refl
 
 -- what is kept has none of the table's numbers
 past : (m n : ℕ) → typed m ≡ true → typed n ≡ false → m ≤ n → m < n
@@ -217,12 +214,12 @@ module _ (s : List ℕ) where
   -- one line, and those after it
   line_rest : (c : Sofar) (xs : List Supplement) → Sure c xs → (at : ℕ) (l : List ℕ) (more : Record → File) →
       ((r : Record) → Sure (after c.before r) (supplements xs r) → (more r).ending ≡ whole → Rest s (after c.before r) (supplements xs r) (more r).records) →
-      (a : Answer) → read_parts c.last (in_list c.before xs) at (split l) ≡ a → (on a more).ending ≡ whole → Rest s c xs (on a more).records
-  line_rest c xs k at l more f (Took r) h w =
+      (a : Result Record Refusal) → read_parts c.last (in_list c.before xs) at (split l) ≡ a → (on a more).ending ≡ whole → Rest s c xs (on a more).records
+  line_rest c xs k at l more f (Ok r) h w =
       let t = stood c.last (in_list c.before xs) at (split l) r h in
       let e = keeps_on c.before xs k.keeps (λ x. list c.before.month (xs ++ (x ∷ []))) (λ x. refl) c.last at (split l) r h in
       rest s c xs r (more r).records k t (f r (sure c xs r k t e) w)
-  line_rest c xs k at l more f (Refused x) h w = never_whole w
+  line_rest c xs k at l more f (Err x) h w = never_whole w
 
   lines_rest : (ls : List (List ℕ)) (at : ℕ) (c : Sofar) (xs : List Supplement) → Sure c xs → (read_lines at c xs ls).ending ≡ whole → Rest s c xs (read_lines at c xs ls).records
   unfolding read_lines

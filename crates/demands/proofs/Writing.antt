@@ -18,8 +18,6 @@ use Rattle.record.specs.Record.{start, after}
 use Rattle.record_line.specs.Line.{read_parts}
 use Rattle.record.specs.declared.Record.{Record}
 use Rattle.record.specs.declared.Refusal.{Refusal}
-use Rattle.record.specs.declared.Answer.{Answer}
-use Rattle.record.specs.declared.Answer.TheVariants.{Took, Refused}
 use Rattle.held.specs.Held.{lent_held, parts, print_record}
 use Rattle.writer.specs.Writer.{Left, refuses, put_at, room, ended, put_line, unopened, open_buffer, on_answer, put_record, close_buffer}
 use Rattle.writer.specs.declared.State.{State}
@@ -28,6 +26,7 @@ use Rattle.demands.specs.Numbers.{hopeless, missing, WriterNumber}
 use Rattle.demands.specs.Numbers as numbers
 use Rattle.demands.specs.Lent.{OnlyBetween, Answers, Call, opening, putting, closing, handed, answer}
 use Rattle.demands.proofs.Refusals.{by_number}
+use Rattle.std.specs.Prelude.{Err, Ok, Result}
 
 -- bytes put at a place
 put_only : (out l : List ℕ) (at to : ℕ) → at + length l ≡ to → to ≤ length out → OnlyBetween at to out (put_at out at l)
@@ -80,16 +79,16 @@ module _ (out : List ℕ) (t : State) where
       either t.closed (λ a. would_refuse 24 (numbers.WriterNumber.of_record hopeless))
       (λ a. by (read_parts t.sofar.last (context t.sofar.before) t.at (parts (lent_held lent r))) refl)
     where
-      own : (f : Refusal) → read_parts t.sofar.last (context t.sofar.before) t.at (parts (lent_held lent r)) ≡ Refused f →
+      own : (f : Refusal) → read_parts t.sofar.last (context t.sofar.before) t.at (parts (lent_held lent r)) ≡ Err f →
           WriterNumber 34 f.fault.number
       own =
           by_number (WriterNumber 34) t.sofar.last (context t.sofar.before) t.at (parts (lent_held lent r))
           (λ n b. numbers.WriterNumber.of_record b) (λ n p b. numbers.WriterNumber.of_field b) numbers.WriterNumber.of_code
 
-      by : (a : Answer) → read_parts t.sofar.last (context t.sofar.before) t.at (parts (lent_held lent r)) ≡ a →
+      by : (a : Result Record Refusal) → read_parts t.sofar.last (context t.sofar.before) t.at (parts (lent_held lent r)) ≡ a →
           Answers out t (on_answer out t a (print_record (lent_held lent r)) (after t.sofar.before r))
-      by (Took q) e = line_answers (print_record (lent_held lent r)) (after t.sofar.before r)
-      by (Refused f) e = would_refuse f.fault.number (own f e)
+      by (Ok q) e = line_answers (print_record (lent_held lent r)) (after t.sofar.before r)
+      by (Err f) e = would_refuse f.fault.number (own f e)
 
   close_answers : Answers out t (close_buffer out t)
   unfolding close_buffer

@@ -1,7 +1,7 @@
 -- Demand 1, call by call: that writing has one answer, and which of document 01's numbers a refusal tells. `Numbers` has the table of numbers
 -- and places.
 -- Assumes nothing.
-use Rattle.std.specs.Prelude.{ℕ, ◌≤◌, ◌<◌, ◌≡◌, List, ◌↔◌, length}
+use Rattle.std.specs.Prelude.{ℕ, ◌≤◌, ◌<◌, ◌≡◌, List, ◌↔◌, length, Result}
 use Rattle.cells.specs.Test.{took, refused}
 use Rattle.usage.specs.Usage.{read_usage}
 use Rattle.usage.specs.declared.Instruction.{Instruction}
@@ -13,7 +13,6 @@ use Rattle.supplement_writer.specs.Writes.{WritesSupplement}
 use Rattle.supplement_writer.specs.declared.Written.{Written as WrittenSupplement}
 use Rattle.days.specs.Run.{stopped, refuses, read_run}
 use Rattle.days_writer.specs.Set.{WritesSet}
-use Rattle.days_writer.specs.declared.Wrote.{Wrote}
 use Rattle.date.specs.Date.{read_date, make_western, make_era, make_date}
 use Rattle.day.specs.declared.Day.{Day}
 use Rattle.record.specs.declared.Refusal.{Refusal}
@@ -27,6 +26,7 @@ use Rattle.demands.specs.One.{One}
 use Rattle.demands.specs.Numbers.{UsageNumber, SupplementNumber, RunNumber, DateNumber, DateTextNumber, LineRefusal}
 use Rattle.demands.specs.Refused.{FileRefusal}
 use Rattle.demands.specs.Calendar.{CalendarRefusal}
+use Rattle.cells.specs.declared.Fault.{Fault}
 
 -- "Every file, code and record handed over gets an answer": writing a code or a set of days has one answer that meets its promise, and no other.
 pub record Answered : Type 0 where
@@ -35,7 +35,7 @@ pub record Answered : Type 0 where
   -- a supplement to write as a supplementary code,
   pub supplement : (x : Supplement) → One WrittenSupplement (WritesSupplement x)
   -- and a set of days, which has thirteen cells, into a lent buffer: the answer comes with the buffer after it.
-  pub set : (issue : ℕ) (cells before : List ℕ) → length cells ≡ 13 → One (List ℕ × Wrote) (λ a. WritesSet issue cells before a.0 a.1)
+  pub set : (issue : ℕ) (cells before : List ℕ) → length cells ≡ 13 → One (List ℕ × Result ℕ Fault) (λ a. WritesSet issue cells before a.0 a.1)
 
 -- "A refusal is one of document 01's numbers, with its place."
 pub record NumberAndPlace : Type 0 where

@@ -8,8 +8,6 @@ use lib.ListN.{replicate}
 use Rattle.cells.proofs.Split.{split}
 use Rattle.supplement.specs.declared.Supplement.{Supplement}
 use Rattle.record.specs.Record.{with_supplement}
-use Rattle.record.specs.declared.SupplementCode.{SupplementCode}
-use Rattle.record.specs.declared.SupplementCode.TheVariants.{Is as supplement_is, Empty as no_supplement}
 use Rattle.record.specs.declared.Record.{Record}
 use Rattle.record.specs.declared.Record.TheVariants.{Issue, Rp, Usage, Supplement as Supply, Drug, Kept}
 use Rattle.course.specs.Plan.{Found, times_fixed, times_of}
@@ -20,6 +18,7 @@ use Rattle.course.proofs.Kept.{by_letter}
 use Rattle.dose_calendar.specs.Found.{nothing, owns, with_record}
 use Rattle.dose_calendar.specs.Code.Gather.{joined, no_course, joined_by, course_with, marked_by, marks_with}
 use Rattle.dose_calendar.proofs.Marks.{marks_none, marks_more}
+use Rattle.std.specs.Prelude.{None, Option, Some}
 
 -- Before the first record,
 pub keeps_none : (marks : List Bool) → marks ≡ replicate 416 false → Keeps no_course marks nothing
@@ -36,13 +35,13 @@ joined_more [] x = refl
 joined_more (y ∷ ys) x = first_stays y x
 
 -- what an RP's supplements say with one more, or with none
-rule_by : (rule : Rule) (xs : List Supplement) (code : SupplementCode) → rule ≡ rule_in xs → joined_by rule code ≡ rule_in (with_supplement xs code)
-rule_by rule xs (supplement_is x) e = ap (λ (r : Rule). joined r x) e ∙ joined_more xs x
-rule_by rule xs no_supplement e = e
+rule_by : (rule : Rule) (xs : List Supplement) (code : Option Supplement) → rule ≡ rule_in xs → joined_by rule code ≡ rule_in (with_supplement xs code)
+rule_by rule xs (Some x) e = ap (λ (r : Rule). joined r x) e ∙ joined_more xs x
+rule_by rule xs None e = e
 
-marks_by : (marks : List Bool) (xs : List Supplement) (code : SupplementCode) → Marks marks xs → Marks (marked_by marks code) (with_supplement xs code)
-marks_by marks xs (supplement_is x) w = marks_more marks xs x w
-marks_by marks xs no_supplement w = w
+marks_by : (marks : List Bool) (xs : List Supplement) (code : Option Supplement) → Marks marks xs → Marks (marked_by marks code) (with_supplement xs code)
+marks_by marks xs (Some x) w = marks_more marks xs x w
+marks_by marks xs None w = w
 
 -- and with each record more.
 pub keeps_more : (rp : ℕ) (c : Course) (marks : List Bool) (w : Found) (r : Record) → Keeps c marks w →

@@ -1,21 +1,20 @@
 -- Document 02, ticket 3: what a sheet's records have for an RP number, record by record.
 -- Assumes nothing.
-use Rattle.std.specs.Prelude.{ℕ, Bool, true, false, cond, List, [], ◌∷◌, eqb}
+use Rattle.std.specs.Prelude.{ℕ, Bool, true, false, cond, List, [], ◌∷◌, eqb, None, Option}
 use Rattle.date.specs.declared.Date.{Date}
 use Rattle.supplement.specs.declared.Supplement.{Supplement}
 use Rattle.counter.specs.declared.RpNumber.{RpNumber}
 use Rattle.record.specs.Record.{with_supplement}
-use Rattle.record.specs.declared.UsageCode.{UsageCode}
-use Rattle.record.specs.declared.UsageCode.TheVariants.{Empty as no_usage}
 use Rattle.record.specs.declared.Record.{Record}
 use Rattle.record.specs.declared.Record.TheVariants.{Issue, Rp, Usage, Supplement as Supply, Drug, Kept}
 use Rattle.day.specs.Day.{day}
 use Rattle.day.specs.declared.Day.{Day}
 use Rattle.course.specs.Plan.{Found}
+use Rattle.usage.specs.declared.Instruction.{Instruction}
 
 -- Before the first record.
 abbrev pub nothing : Found
-nothing = record { issue = day 0 0 0; begins = false; plan = record { usage = no_usage; supplements = [] } }
+nothing = record { issue = day 0 0 0; begins = false; plan = record { usage = None; supplements = [] } }
 
 -- The day of a date.
 abbrev pub day_of : Date → Day
@@ -34,7 +33,7 @@ abbrev pub begun : Found → Found
 begun w = record { issue = w.issue; begins = true; plan = w.plan }
 
 -- with its usage code,
-abbrev pub with_usage : UsageCode → Found → Found
+abbrev pub with_usage : Option Instruction → Found → Found
 with_usage u w = record { issue = w.issue; begins = w.begins; plan = record { usage = u; supplements = w.plan.supplements } }
 
 -- or with more supplements.

@@ -13,20 +13,12 @@ ghost use Rattle.dose_calendar.specs.Calendar.{calendar_of};
 ghost use Rattle.dose_calendar.specs.Code.Gather.{joined as joined_of, joined_by, mark_day, mark_days, marked_by, course as course_by, no_course, with_usage_of, with_rule, course_with, marks_with, Gives};
 
 use counter::RpNumber;
-use course::{Answer, Course, Rule};
+use course::{Course, Rule};
 use date::Date;
 use day::Day;
-use reader::Handed;
-use record::{Record, Record101, Record111, Record181, Refusal, SupplementCode, UsageCode};
+use record::{Record, Record101, Record111, Record181, Refusal};
 use supplement::{Days, Supplement};
 use usage::Instruction;
-
-// The course of a sheet that is taken, or its refusal.
-#[derive(Clone, Copy)]
-enum Gathered {
-    Whole(Course),
-    Refused(Refusal),
-}
 
 fn wide(n: u8) -> usize
     ensures { result ≡ n }
@@ -140,12 +132,12 @@ fn with_times(c: Course, fixed: bool, times: u8) -> Course
     t
 }
 
-fn with_usage(c: Course, code: UsageCode) -> Course
+fn with_usage(c: Course, code: Option<Instruction>) -> Course
     ensures { result ≡ with_usage_of c code }
 {
     match code {
-        UsageCode::Is(i) => with_times(c, fixes_times(i), i.times),
-        UsageCode::Empty => with_times(c, false, 0),
+        Some(i) => with_times(c, fixes_times(i), i.times),
+        None => with_times(c, false, 0),
     }
 }
 
@@ -162,18 +154,18 @@ fn with_rule(c: Course, rule: Rule) -> Course
     }
 }
 
-fn with_supplement(c: Course, marks: &mut [bool; 416], code: SupplementCode) -> Course
+fn with_supplement(c: Course, marks: &mut [bool; 416], code: Option<Supplement>) -> Course
     requires { length marks.old ≡ 416 }
     ensures { (result ≡ with_rule c (joined_by c.rule code)) × (marks.new ≡ marked_by marks.old code) }
 {
     match code {
-        SupplementCode::Is(x) => {
+        Some(x) => {
             let days = x.days;
             mark_days(marks, x.month, days);
             let rule = c.rule;
             with_rule(c, joined(rule, x))
         }
-        SupplementCode::Empty => c,
+        None => c,
     }
 }
 
@@ -241,7 +233,7 @@ fn with_record(c: Course, marks: &mut [bool; 416], rp: u32, r: Record) -> Course
 }
 
 // Reads the file once, record by record, to its end.
-fn gather(file: &[u8], rp: u32, marks: &mut [bool; 416]) -> Gathered
+fn gather(file: &[u8], rp: u32, marks: &mut [bool; 416]) -> Result<Course, Refusal>
     requires { marks.old ≡ replicate 416 false }
     ensures { Gives file.now rp marks.new result }
 {
@@ -251,15 +243,15 @@ fn gather(file: &[u8], rp: u32, marks: &mut [bool; 416]) -> Gathered
         let step = reader::next(file, from);
         let handed = step.next;
         match handed {
-            Handed::Record(r) => {
+            Ok(Some(r)) => {
                 c = with_record(c, marks, rp, r);
                 from = step.state;
             }
-            Handed::Refused(f) => {
-                return Gathered::Refused(f);
+            Err(f) => {
+                return Err(f);
             }
-            Handed::End => {
-                return Gathered::Whole(c);
+            Ok(None) => {
+                return Ok(c);
             }
         }
     }
@@ -274,13 +266,13 @@ pub fn fill(
     day: u32,
     days: u32,
     out: &mut [u8],
-) -> Answer
+) -> Result<(), Refusal>
     ensures { record { told = said result; output = out.new } ≡ answers (calendar_of file.now rp (day_by year month day) days (length out.old)) out.old }
 {
     let mut marks = [false; 416];
     let gathered = gather(file, rp, &mut marks);
     match gathered {
-        Gathered::Whole(c) => course::fill(c, &marks, year, month, day, days, out),
-        Gathered::Refused(f) => Answer::Refused(f),
+        Ok(c) => course::fill(c, &marks, year, month, day, days, out),
+        Err(f) => Err(f),
     }
 }

@@ -6,8 +6,6 @@ ghost use Rattle.reader.specs.Said.{said_check};
 ghost use Rattle.reader.specs.File.{check_file};
 ghost use Rattle.dose_report.specs.Behind.{behind};
 
-use course::Answer;
-use reader::Checked;
 use record::Refusal;
 
 // The longest first line that is a question.
@@ -15,7 +13,7 @@ const LINE: usize = 16382;
 
 // Prints `doses D1 D2 ..`, the refusal, or `unknown question`, and hands back what the sheet is read as: its promise is about that, and what it prints
 // is compared.
-pub fn answer(rt: &impl Print, s: &[u8]) -> Checked
+pub fn answer(rt: &impl Print, s: &[u8]) -> Result<usize, Refusal>
     ensures { said_check result ≡ check_file (behind s.now) }
 {
     let sheet = sheet_of(s);
@@ -215,8 +213,8 @@ fn fill(
         return;
     }
     match dose_calendar::fill(sheet, rp, year, month, day, days, &mut doses[0..room]) {
-        Answer::Filled => print_doses(rt, doses, days),
-        Answer::Refused(f) => refused(rt, sheet, f),
+        Ok(()) => print_doses(rt, doses, days),
+        Err(f) => refused(rt, sheet, f),
     }
 }
 

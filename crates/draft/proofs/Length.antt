@@ -15,13 +15,13 @@ use Rattle.field.specs.Field.{context}
 use Rattle.record.specs.declared.Sofar.{Sofar}
 use Rattle.record.specs.Record.{start, after}
 use Rattle.record.specs.declared.Record.{Record}
-use Rattle.record.specs.declared.Answer.{Answer}
-use Rattle.record.specs.declared.Answer.TheVariants.{Took, Refused}
 use Rattle.record_line.specs.Line.{read_parts}
 use Rattle.held.specs.Held.{lent_held, parts, print_record}
 use Rattle.writer.specs.Writer.{room, ended, put_line, refuses, unopened, open_buffer, on_answer, put_record, close_buffer}
 use Rattle.writer.specs.declared.State.{State}
 use Rattle.writer.proofs.ReadBack.{put_length}
+use Rattle.std.specs.Prelude.{Err, Ok, Result}
+use Rattle.record.specs.declared.Refusal.{Refusal}
 
 of_line : (out : List ℕ) (t : State) (l : List ℕ) (c : Sofar) → length (put_line out t l c).buffer ≡ length out
 unfolding room
@@ -35,11 +35,11 @@ unfolding open_buffer
 open_length out = of_line out unopened (bytes "JAHIS5") start
 
 module _ (out : List ℕ) (t : State) where
-  of_answer : (a : Answer) (l : List ℕ) (c : Sofar) → length (on_answer out t a l c).buffer ≡ length out
-  of_answer (Took r) l c = of_line out t l c
-  of_answer (Refused f) l c = refl
+  of_answer : (a : Result Record Refusal) (l : List ℕ) (c : Sofar) → length (on_answer out t a l c).buffer ≡ length out
+  of_answer (Ok r) l c = of_line out t l c
+  of_answer (Err f) l c = refl
 
-  of_call : (closed : Bool) (a : Answer) (l : List ℕ) (c : Sofar) → length (cond closed (refuses out t 34 24) (on_answer out t a l c)).buffer ≡ length out
+  of_call : (closed : Bool) (a : Result Record Refusal) (l : List ℕ) (c : Sofar) → length (cond closed (refuses out t 34 24) (on_answer out t a l c)).buffer ≡ length out
   of_call true a l c = refl
   of_call false a l c = of_answer a l c
 

@@ -24,10 +24,10 @@ use Rattle.row.specs.declared.Row.{Row}
 use Rattle.laid.specs.Laid.{Laid}
 use Rattle.record_line.specs.Line.{refusal, row_refusal, from_row, read_fields, record_number, read_parts}
 use Rattle.record.specs.declared.Refusal.{Refusal}
-use Rattle.record.specs.declared.Answer.TheVariants.{Refused}
 use Rattle.held.proofs.Numbers.{number_value}
 use Rattle.entry.specs.Entry.{number_in}
 use Rattle.entry.specs.Code.Judge.{wrong_typed, texts_wrong, wrong_in}
+use Rattle.std.specs.Prelude.{Err}
 
 -- ---- the record's number, as it is written and read
 -- a number is read as itself, or as none
@@ -166,7 +166,7 @@ module _ (last : ℕ) (c : Context) where
 
   -- ---- refusals
   -- A refusal is told by the record's number after the last one, or by its row.
-  pub by_refused : {P : Type 0} (at n from : ℕ) (fs : List (List ℕ)) (f : Refusal) → read_fields last c at n from fs ≡ Refused f →
+  pub by_refused : {P : Type 0} (at n from : ℕ) (fs : List (List ℕ)) (f : Refusal) → read_fields last c at n from fs ≡ Err f →
       ((follow last n ≡ 0 → ⊥) → refusal (follow last n) at ≡ f → P) →
       (follow last n ≡ 0 → ((read_row c n from fs).fault.number ≡ 0 → ⊥) → row_refusal at (read_row c n from fs) ≡ f → P) → P
   unfolding read_fields
@@ -174,15 +174,15 @@ module _ (last : ℕ) (c : Context) where
       cases (eqb (follow last n) 0)
       (λ a. cases (eqb (read_row c n from fs).fault.number 0)
       (λ b. absurd (let q = simp (a, b) at h in let z : ◌≡◌ {A = ℕ} 0 1 = cc in omega arith))
-      (λ b. let q : Refused (row_refusal at (read_row c n from fs)) ≡ Refused f = simp (a, b) at h in k (eqb-true _ _ a) (eqb-false _ _ b) (cc)))
-      (λ a. let q : Refused (refusal (follow last n) at) ≡ Refused f = simp a at h in g (eqb-false _ _ a) (cc))
+      (λ b. let q : Err (row_refusal at (read_row c n from fs)) ≡ Err f = simp (a, b) at h in k (eqb-true _ _ a) (eqb-false _ _ b) (cc)))
+      (λ a. let q : Err (refusal (follow last n) at) ≡ Err f = simp a at h in g (eqb-false _ _ a) (cc))
 
   -- The number of a refusal does not go by the place,
   pub anywhere : (at : ℕ) (ps : List (List ℕ)) → number_in (read_parts last c at ps) ≡ number_in (read_parts last c 0 ps)
   anywhere at ps = by_parts at ps ∙ sym (by_parts 0 ps)
 
   -- and is never 0.
-  pub refused_some : (at : ℕ) (ps : List (List ℕ)) (f : Refusal) → read_parts last c at ps ≡ Refused f → f.fault.number ≡ 0 → ⊥
+  pub refused_some : (at : ℕ) (ps : List (List ℕ)) (f : Refusal) → read_parts last c at ps ≡ Err f → f.fault.number ≡ 0 → ⊥
   unfolding read_parts
   refused_some at ps f h z =
       let number : Refusal → ℕ = λ r. r.fault.number in

@@ -29,7 +29,6 @@ use Rattle.record.specs.declared.Kept.{Kept}
 use Rattle.record.specs.declared.Refusal.{Refusal}
 use Rattle.record.specs.declared.Record.{Record}
 use Rattle.record.specs.declared.Record.TheVariants.{Issue, Rp, Usage, Supplement as Supply, Drug, Kept as KeptRecord}
-use Rattle.record.specs.declared.Answer.TheVariants.{Refused}
 use Rattle.held.specs.Held.{lent_text, lent_held, optional, usage_value, supplement_value, print, parts, print_record}
 use Rattle.held.proofs.Record.{texts}
 use Rattle.entry.specs.Entry.{kind_of, part_number, from_of, to_of, optional_part, part_list, Parts, parts_of, number_in, entry_of}
@@ -37,6 +36,7 @@ use Rattle.entry.specs.Code.Judge.{number_for, laid_in, parts_from, kind_mark, p
 use Rattle.entry.proofs.Bridge.{some_field, join_more, first_wrong, typed_wrong, kept_wrong}
 use Rattle.entry.proofs.Bridge as bridge
 use Rattle.entry.proofs.Judged.{mark_is, number_judged}
+use Rattle.std.specs.Prelude.{Err}
 
 -- a kept record's number is none of the table's
 untyped : (n : ℕ) → typed (cond (typed n) 0 n) ≡ false
@@ -163,7 +163,7 @@ pub anywhere : (last : ℕ) (c : Context) (at : ℕ) (ps : List (List ℕ)) → 
 anywhere = bridge.anywhere
 
 -- and is never 0.
-pub refused_some : (last : ℕ) (c : Context) (at : ℕ) (ps : List (List ℕ)) (f : Refusal) → read_parts last c at ps ≡ Refused f → f.fault.number ≡ 0 → ⊥
+pub refused_some : (last : ℕ) (c : Context) (at : ℕ) (ps : List (List ℕ)) (f : Refusal) → read_parts last c at ps ≡ Err f → f.fault.number ≡ 0 → ⊥
 refused_some = bridge.refused_some
 
 -- the kind that may be empty

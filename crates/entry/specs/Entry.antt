@@ -1,6 +1,6 @@
 -- A record as the parts of the line that it is written as: each a number's digits, a place in the bytes lent beside the record, or characters of its own.
 -- Assumes nothing.
-use Rattle.std.specs.Prelude.{ℕ, ◌-◌, cond, List, [], ◌∷◌, ◌++◌, map, eqb, length, replicate}
+use Rattle.std.specs.Prelude.{ℕ, ◌-◌, cond, List, [], ◌∷◌, ◌++◌, map, eqb, length, replicate, Err, Ok, Result}
 use Rattle.number.specs.Print.{print_amount}
 use Rattle.field.specs.Field.{Context}
 use Rattle.laid.specs.Laid.{parts_most}
@@ -9,10 +9,9 @@ use Rattle.record_line.specs.Line.{read_parts}
 use Rattle.record.specs.Record.{Column, columns}
 use Rattle.record.specs.Record as column
 use Rattle.record.specs.declared.Place.{Place}
-use Rattle.record.specs.declared.Answer.{Answer}
-use Rattle.record.specs.declared.Answer.TheVariants.{Took, Refused}
 use Rattle.record.specs.declared.Record.{Record}
 use Rattle.held.specs.Held.{lent_held, usage_value, supplement_value, print, parts}
+use Rattle.record.specs.declared.Refusal.{Refusal}
 
 -- A part of a line: a number, a text in the lent bytes, or one in the bytes that the record has of its own.
 pub data Part : Type 0 where
@@ -105,9 +104,9 @@ parts_of r =
     }
 
 -- The number of a refusal, 0 where a record is taken.
-abbrev pub number_in : Answer → ℕ
-number_in (Took r) = 0
-number_in (Refused f) = f.fault.number
+abbrev pub number_in : Result Record Refusal → ℕ
+number_in (Ok r) = 0
+number_in (Err f) = f.fault.number
 
 -- What is said of a record, and its parts.
 pub record Entry : Type 0 where

@@ -12,13 +12,12 @@ ghost use Rattle.held.specs.Held.{usage_value, supplement_value, print};
 ghost use Rattle.entry.specs.Entry.{kind_of, optional_part, parts_of, entry_of};
 ghost use Rattle.entry.specs.Code.Judge.{kept_number, kind_mark, table_by, number_wrong, part_wrong, wrong_typed, comma_from, texts_wrong, wrong_in};
 
+use supplement::Supplement;
+use usage::Instruction;
 use field::{Before, Rule};
 use laid::{NUMBER, OWN, PARTS, TEXT};
 use printed::Piece;
-use record::{
-    Kept, Record, Record51, Record101, Record111, Record181, Record201, Sofar, SupplementCode,
-    UsageCode,
-};
+use record::{Kept, Record, Record51, Record101, Record111, Record181, Record201, Sofar};
 use row::Rules;
 
 // The number with which the reader would refuse a record, 0 where it takes it; and how many parts its line has.
@@ -50,21 +49,21 @@ fn optional(n: u16) -> u8
     NUMBER
 }
 
-fn usage_code(code: UsageCode) -> Piece
+fn usage_code(code: Option<Instruction>) -> Piece
     ensures { result ≡ piece (print (usage_value code)) }
 {
     match code {
-        UsageCode::Is(i) => printed::usage(i),
-        UsageCode::Empty => empty(),
+        Some(i) => printed::usage(i),
+        None => empty(),
     }
 }
 
-fn supplement_code(code: SupplementCode) -> Piece
+fn supplement_code(code: Option<Supplement>) -> Piece
     ensures { result ≡ piece (print (supplement_value code)) }
 {
     match code {
-        SupplementCode::Is(x) => printed::supplement(x),
-        SupplementCode::Empty => empty(),
+        Some(x) => printed::supplement(x),
+        None => empty(),
     }
 }
 

@@ -14,7 +14,6 @@ ghost use Rattle.field.specs.Code.Read.{usage_field, supplement_field, code_fiel
 
 use cells::Fault;
 use counter::{DrugSerial, RpNumber, SupplementSerial};
-use date::Made;
 use number::Number;
 use schedule::Schedule;
 
@@ -156,8 +155,8 @@ fn read_usage(f: &[u8]) -> Field
     ensures { result ≡ usage_field (read_usage f.now) }
 {
     match usage::read(f) {
-        usage::Reading::Taken(_) => refused(0, 0, 0),
-        usage::Reading::Refused(x) => refused(29, x.place, x.number),
+        Ok(_) => refused(0, 0, 0),
+        Err(x) => refused(29, x.place, x.number),
     }
 }
 
@@ -168,13 +167,13 @@ fn read_supplement(b: Before, f: &[u8]) -> Field
     let month = b.month;
     let before = b.schedule;
     match supplement::read(f) {
-        supplement::Reading::Taken(x) => {
+        Ok(x) => {
             if schedule::joins(month, before, x) {
                 return refused(0, 0, 0);
             }
             refused(31, 0, 0)
         }
-        supplement::Reading::Refused(x) => refused(29, x.place, x.number),
+        Err(x) => refused(29, x.place, x.number),
     }
 }
 
@@ -194,7 +193,7 @@ fn read_number(b: Before, r: Rule, f: &[u8]) -> Field
     ensures { result ≡ read_filled (context b) r f.now }
 {
     match number::read(f, r.lo, r.hi) {
-        Number::Is(m) => {
+        Ok(m) => {
             let n = (m % 65536) as u16;
             if (r.form == CODE_KIND) & (n == 5) {
                 return refused(27, 0, 0); // "code kind 1 2 3 4 6 7"
@@ -212,7 +211,7 @@ fn read_number(b: Before, r: Rule, f: &[u8]) -> Field
                 amount: 0,
             }
         }
-        Number::Not(x) => refused(x.number, x.place, 0),
+        Err(x) => refused(x.number, x.place, 0),
     }
 }
 
@@ -245,7 +244,7 @@ fn read_amount(f: &[u8]) -> Field
     ensures { result ≡ amount_field (read_amount f.now) }
 {
     match number::read_amount(f) {
-        Number::Is(n) => Field {
+        Ok(n) => Field {
             fault: Fault {
                 number: 0,
                 place: 0,
@@ -254,7 +253,7 @@ fn read_amount(f: &[u8]) -> Field
             n: 0,
             amount: n,
         },
-        Number::Not(x) => refused(x.number, x.place, 0),
+        Err(x) => refused(x.number, x.place, 0),
     }
 }
 
@@ -262,8 +261,8 @@ fn read_date(f: &[u8]) -> Field
     ensures { result ≡ date_field (read_date f.now) }
 {
     match date::read(f) {
-        Made::Day(_) => refused(0, 0, 0),
-        Made::None(x) => refused(x.number, x.place, 0),
+        Ok(_) => refused(0, 0, 0),
+        Err(x) => refused(x.number, x.place, 0),
     }
 }
 

@@ -32,13 +32,8 @@ use Rattle.row.specs.Table.{typed, rules, rules_from}
 use Rattle.record.specs.Record.{text_at, after, supplements, date_in, usage_in, supplement_in, record_from}
 use Rattle.record_line.specs.Fields.{place_of, record_of}
 use Rattle.record_line.specs.Line.{number_in, read_parts}
-use Rattle.record.specs.declared.UsageCode.{UsageCode}
-use Rattle.record.specs.declared.UsageCode.TheVariants.{Is as usage_is, Empty as no_usage}
-use Rattle.record.specs.declared.SupplementCode.{SupplementCode}
-use Rattle.record.specs.declared.SupplementCode.TheVariants.{Is as supplement_is, Empty as no_supplement}
 use Rattle.record.specs.declared.Record.{Record}
 use Rattle.record.specs.declared.Record.TheVariants.{Issue, Rp, Usage, Supplement as Supply, Drug, Kept}
-use Rattle.record.specs.declared.Answer.TheVariants.{Took}
 use Rattle.record_line.proofs.Stands.{stands, all_stand, after_first}
 use Rattle.held.specs.Held.{number, amount, text, optional, usage_value, supplement_value, holding, held, lent_text, lent_held, print, parts, print_record}
 use Rattle.held.proofs.Numbers.{number_value, amount_value}
@@ -46,6 +41,7 @@ use Rattle.held.proofs.Field.{coded, day_read, refused_usage, refused_supplement
 use Rattle.held.proofs.Row.{Fine}
 use Rattle.held.proofs.Taken.{Taken, taken, not_0}
 use Rattle.held.proofs.Record.{texts}
+use Rattle.std.specs.Prelude.{None, Ok, Option, Some}
 use Rattle.held.proofs.Plain as plain
 
 -- ---- value by value
@@ -57,12 +53,12 @@ date_value : (t : Date) (m : Answer Date) → read_date (date_field t) ≡ m →
 date_value t (took u) e h = date_reads t u e
 date_value t (refused n p) e h = absurd (let z : ◌≡◌ {A = ℕ} 0 1 = cc in omega arith)
 
-usage_value_lem : (i : Instruction) (m : Answer Instruction) → read_usage (usage_field i) ≡ m → (fault_in m).number ≡ 0 → usage_in m ≡ usage_is i
-usage_value_lem i (took j) e h = ap usage_is (usage_reads i j e)
+usage_value_lem : (i : Instruction) (m : Answer Instruction) → read_usage (usage_field i) ≡ m → (fault_in m).number ≡ 0 → usage_in m ≡ Some i
+usage_value_lem i (took j) e h = ap Some (usage_reads i j e)
 usage_value_lem i (refused n p) e h = absurd (refused_usage (usage_field i) n p e h)
 
-supplement_value_lem : (x : Supplement) (m : Answer Supplement) → read_supplement (supplement_field x) ≡ m → (fault_in m).number ≡ 0 → supplement_in m ≡ supplement_is x
-supplement_value_lem x (took y) e h = ap supplement_is (supplement_reads x y e)
+supplement_value_lem : (x : Supplement) (m : Answer Supplement) → read_supplement (supplement_field x) ≡ m → (fault_in m).number ≡ 0 → supplement_in m ≡ Some x
+supplement_value_lem x (took y) e h = ap Some (supplement_reads x y e)
 supplement_value_lem x (refused n p) e h = absurd (refused_supplement (supplement_field x) n p e h)
 
 -- a code's field is filled
@@ -167,20 +163,20 @@ holds_same s lent at rest (Kept x) h =
 -- ---- what is read of the fields
 module _ (last : ℕ) (c : Context) where
   -- codes, where there are some
-  usage_read : (need : ℕ) (k : UsageCode) → (wrong c (rule need 4 0 0) (print (usage_value k))).number ≡ 0 →
+  usage_read : (need : ℕ) (k : Option Instruction) → (wrong c (rule need 4 0 0) (print (usage_value k))).number ≡ 0 →
       usage_in (read_usage (print (usage_value k))) ≡ k
   unfolding read_usage code_fault
-  usage_read need (usage_is i) h =
+  usage_read need (Some i) h =
       usage_value_lem i (read_usage (usage_field i)) refl (coded c _ (usage_field i) (usage_filled i) h)
-  usage_read need no_usage h = refl
+  usage_read need None h = refl
 
-  supplement_read : (need : ℕ) (k : SupplementCode) → (wrong c (rule need 5 0 0) (print (supplement_value k))).number ≡ 0 →
+  supplement_read : (need : ℕ) (k : Option Supplement) → (wrong c (rule need 5 0 0) (print (supplement_value k))).number ≡ 0 →
       supplement_in (read_supplement (print (supplement_value k))) ≡ k
   unfolding read_supplement code_fault
-  supplement_read need (supplement_is x) h =
+  supplement_read need (Some x) h =
       supplement_value_lem x (read_supplement (supplement_field x)) refl
       (coded c _ (supplement_field x) (supplement_filled x) h)
-  supplement_read need no_supplement h = refl
+  supplement_read need None h = refl
 
   -- ---- the record that is read
   -- a number that has no line in the table
@@ -259,7 +255,7 @@ module _ (last : ℕ) (c : Context) where
       cases (shortest (print_number n) && (leb 1 (value 0 (print_number n)) && leb (value 0 (print_number n)) 999))
       (λ e. simp e (number_value n)) (λ e. not_0 last c (simp e at h))
 
-  module _ (at : ℕ) (lent : List ℕ) (r q : Record) (h : read_parts last c at (parts (lent_held lent r)) ≡ Took q) where
+  module _ (at : ℕ) (lent : List ℕ) (r q : Record) (h : read_parts last c at (parts (lent_held lent r)) ≡ Ok q) where
     -- where the first field begins
     abbrev from : ℕ
     from = at + length (print_number (lent_held lent r).number) + 1

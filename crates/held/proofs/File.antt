@@ -17,12 +17,11 @@ use Rattle.record_line.specs.Line.{read_parts}
 use Rattle.record.specs.declared.Sofar.{Sofar}
 use Rattle.record.specs.declared.Record.{Record}
 use Rattle.record.specs.declared.Refusal.{Refusal}
-use Rattle.record.specs.declared.Answer.{Answer}
-use Rattle.record.specs.declared.Answer.TheVariants.{Took, Refused}
 use Rattle.reader.specs.File.{File, whole, stopped, on, in_list, read_lines}
 use Rattle.reader.proofs.Lines.{after_line}
 use Rattle.held.specs.Held.{held, print_record}
 use Rattle.held.proofs.Record.{record_back}
+use Rattle.std.specs.Prelude.{Err, Ok, Result}
 
 -- a file that is refused is not whole
 pub never_whole : {P : Type 0} {f : Refusal} → stopped f ≡ whole → P
@@ -36,12 +35,12 @@ module _ (s : List ℕ) where
   -- one line, and those after it
   line_back : (last : ℕ) (c : Context) (at : ℕ) (l : List ℕ) (ls : List (List ℕ)) (rest : Record → File) →
       drop at s ≡ file (l ∷ ls) → ((r : Record) → (rest r).ending ≡ whole → written (rest r).records ≡ ls) →
-      (a : Answer) → read_parts last c at (split l) ≡ a → (on a rest).ending ≡ whole → written (on a rest).records ≡ l ∷ ls
+      (a : Result Record Refusal) → read_parts last c at (split l) ≡ a → (on a rest).ending ≡ whole → written (on a rest).records ≡ l ∷ ls
   unfolding file
-  line_back last c at l ls rest e more (Took r) h w =
+  line_back last c at l ls rest e more (Ok r) h w =
       ap₂ (λ (k : List ℕ) (ks : List (List ℕ)). k ∷ ks)
       (record_back last c s at (0x0d ∷ 0x0a ∷ file ls) r (split l) h (rw join_split e) ∙ join_split l) (more r w)
-  line_back last c at l ls rest e more (Refused f) h w = never_whole w
+  line_back last c at l ls rest e more (Err f) h w = never_whole w
 
   -- All lines from an offset on.
   pub lines_back : (ls : List (List ℕ)) (at : ℕ) (c : Sofar) (xs : List Supplement) → (read_lines at c xs ls).ending ≡ whole → drop at s ≡ file ls →

@@ -16,7 +16,6 @@ use Rattle.field.specs.Field.{Context}
 use Rattle.record.specs.Record.{start, after, supplements}
 use Rattle.record_line.specs.Line.{read_parts}
 use Rattle.record.specs.declared.Record.{Record}
-use Rattle.record.specs.declared.Answer.TheVariants.{Took}
 use Rattle.reader.specs.Open.{file_fault}
 use Rattle.reader.specs.File.{File, whole, taken, read_lines, read_file}
 use Rattle.reader.proofs.Lines.{opens}
@@ -25,15 +24,16 @@ use Rattle.held.proofs.Plain as plain
 use Rattle.held.proofs.Record as records
 use Rattle.held.proofs.Again as again-laws
 use Rattle.held.proofs.File.{never_whole, lines_back}
+use Rattle.std.specs.Prelude.{Ok}
 
 -- A record that is taken from the parts of a line, which stand in the file where it begins, is written as these parts with commas between them.
 pub record_back : (last : ℕ) (c : Context) (s : List ℕ) (at : ℕ) (ps : List (List ℕ)) (rest : List ℕ) (r : Record) →
-    read_parts last c at ps ≡ Took r → drop at s ≡ join ps ++ rest → print_record (held s r) ≡ join ps
+    read_parts last c at ps ≡ Ok r → drop at s ≡ join ps ++ rest → print_record (held s r) ≡ join ps
 record_back last c s at ps rest r = records.record_back last c s at rest r ps
 
 -- The same where the file is lent beside it: so what was read can be put again.
 pub lent_back : (last : ℕ) (c : Context) (s : List ℕ) (at : ℕ) (ps : List (List ℕ)) (rest : List ℕ) (r : Record) →
-    read_parts last c at ps ≡ Took r → drop at s ≡ join ps ++ rest → at + length (join ps) ≤ length s → parts (lent_held s r) ≡ ps
+    read_parts last c at ps ≡ Ok r → drop at s ≡ join ps ++ rest → at + length (join ps) ≤ length s → parts (lent_held s r) ≡ ps
 lent_back last c s at ps rest r = records.lent_back last c s at rest r ps
 
 -- the lines after the version line
@@ -56,7 +56,7 @@ pub one_file : (s t : List ℕ) (rs qs : List Record) → read_file s ≡ taken 
 one_file s t rs qs h k e = sym (back s rs h) ∙ ap print_file e ∙ back t qs k
 
 -- ---- what was written, read again
-module _ (last : ℕ) (c : Context) (at : ℕ) (lent : List ℕ) (r q : Record) (h : read_parts last c at (parts (lent_held lent r)) ≡ Took q) where
+module _ (last : ℕ) (c : Context) (at : ℕ) (lent : List ℕ) (r q : Record) (h : read_parts last c at (parts (lent_held lent r)) ≡ Ok q) where
   -- Where the reader takes the parts that a record is written as, none of them has a comma, and the line is one of a file;
   pub plain_parts : (no_commas (parts (lent_held lent r)) ≡ true) × (plain_line (print_record (lent_held lent r)) ≡ true)
   plain_parts = ((plain.plain_parts last c at (parts (lent_held lent r)) q h).commas, again-laws.plain_line_lem last c at lent r q h)

@@ -24,13 +24,13 @@ use Rattle.field.specs.Field.{Context, fits, valued, fault_in, code_fault, is_ta
 use Rattle.field.specs.declared.Rule.{Rule}
 use Rattle.record_line.specs.Line.{number_in, read_parts}
 use Rattle.record.specs.declared.Record.{Record}
-use Rattle.record.specs.declared.Answer.TheVariants.{Took}
 use Rattle.field.proofs.Laws.{passes}
 use Rattle.held.proofs.Clean.{Fit, fit_none, text_fit, day_fit, site_fit, amount_fit, number_fit}
 use Rattle.held.proofs.Codes.{usage_fit, supplement_fit}
 use Rattle.held.proofs.Field.{refused_usage, refused_supplement}
 use Rattle.held.proofs.Row.{Fine}
 use Rattle.held.proofs.Taken.{taken, not_0}
+use Rattle.std.specs.Prelude.{Ok}
 
 -- ---- a field by its form
 usage_taken : (f : List ℕ) (m : Answer Instruction) → read_usage f ≡ m → (fault_in m).number ≡ 0 → Fit f
@@ -109,7 +109,7 @@ module _ (last : ℕ) (c : Context) where
   number_part p (refused k q) e h = not_0 last c h
 
   -- The parts of a line that is taken.
-  pub plain_parts : (at : ℕ) (ps : List (List ℕ)) (q : Record) → read_parts last c at ps ≡ Took q → Fits ps
+  pub plain_parts : (at : ℕ) (ps : List (List ℕ)) (q : Record) → read_parts last c at ps ≡ Ok q → Fits ps
   unfolding read_parts read_number shortest
   plain_parts at [] q h = not_0 last c (taken last c at 0 _ [] q h).follows
   plain_parts at (p ∷ fs) q h =

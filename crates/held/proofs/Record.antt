@@ -21,7 +21,6 @@ use Rattle.record_line.specs.Fields.{offset, place_of, record_of}
 use Rattle.record_line.specs.Line.{number_in, read_parts}
 use Rattle.record.specs.declared.Place.{Place}
 use Rattle.record.specs.declared.Record.{Record}
-use Rattle.record.specs.declared.Answer.TheVariants.{Took}
 use Rattle.record_line.proofs.Stands.{stands, all_stand, after_first}
 use Rattle.text.specs.Lent.{text_or}
 use Rattle.held.specs.Held.{text, held_by, held, lent_text, lent_held, print, parts, print_record}
@@ -29,6 +28,7 @@ use Rattle.held.proofs.Field.{number_back, optional_back, amount_back, date_back
 use Rattle.held.proofs.Row.{placed, by_places, Fine}
 use Rattle.held.proofs.Taken.{taken, not_0, number_stood}
 use Rattle.held.proofs.Plain.{row_fits}
+use Rattle.std.specs.Prelude.{Ok}
 
 -- Texts are written as they stand.
 pub texts : (fs : List (List ℕ)) → map print (map text fs) ≡ fs
@@ -163,7 +163,7 @@ module _ (s : List ℕ) (at : ℕ) (fs : List (List ℕ)) (rest : List ℕ) (h :
 -- ---- a line that is taken
 module _ (last : ℕ) (c : Context) where
   -- however its places are read
-  by_parts : (read : Place → List ℕ) (at : ℕ) (p : List ℕ) (fs : List (List ℕ)) (r : Record) → read_parts last c at (p ∷ fs) ≡ Took r →
+  by_parts : (read : Place → List ℕ) (at : ℕ) (p : List ℕ) (fs : List (List ℕ)) (r : Record) → read_parts last c at (p ∷ fs) ≡ Ok r →
       (1 ≤ length fs → Reads read (at + length p + 1) fs) → parts (held_by read r) ≡ p ∷ fs
   unfolding read_parts
   by_parts read at p fs r h s =
@@ -174,19 +174,19 @@ module _ (last : ℕ) (c : Context) where
       ∙ written last c read from fs (s t.fine.some) n t.fine
       ∙ ap (λ (q : List ℕ). q ∷ fs) (number_stood last c p (read_number 1 999 p) refl t.follows)
 
-  no_parts : {P : Type 0} (at : ℕ) (r : Record) → read_parts last c at [] ≡ Took r → P
+  no_parts : {P : Type 0} (at : ℕ) (r : Record) → read_parts last c at [] ≡ Ok r → P
   unfolding read_parts read_number shortest
   no_parts at r h = not_0 last c (taken last c at 0 _ [] r h).follows
 
   module _ (s : List ℕ) (at : ℕ) (rest : List ℕ) (r : Record) where
     -- A record that is taken from parts which stand in the file is written as the parts,
-    pub parts_back : (ps : List (List ℕ)) → read_parts last c at ps ≡ Took r → drop at s ≡ join ps ++ rest → parts (held s r) ≡ ps
+    pub parts_back : (ps : List (List ℕ)) → read_parts last c at ps ≡ Ok r → drop at s ≡ join ps ++ rest → parts (held s r) ≡ ps
     parts_back [] h e = no_parts at r h
     parts_back (p ∷ fs) h e =
         by_parts (text_at s) at p fs r h (λ l. file_reads s (at + length p + 1) fs rest (after_first s p at fs rest l e))
 
     -- also where the file is lent beside it,
-    pub lent_back : (ps : List (List ℕ)) → read_parts last c at ps ≡ Took r → drop at s ≡ join ps ++ rest → at + length (join ps) ≤ length s → parts (lent_held s r) ≡ ps
+    pub lent_back : (ps : List (List ℕ)) → read_parts last c at ps ≡ Ok r → drop at s ≡ join ps ++ rest → at + length (join ps) ≤ length s → parts (lent_held s r) ≡ ps
     unfolding join
     lent_back [] h e m = no_parts at r h
     lent_back (p ∷ []) h e m = by_parts (lent_text s) at p [] r h (λ l. absurd (omega arith))
@@ -196,6 +196,6 @@ module _ (last : ℕ) (c : Context) where
         (omega (arith, length-append p (0x2c ∷ join (f ∷ fs)))))
 
     -- and so as the line.
-    pub record_back : (ps : List (List ℕ)) → read_parts last c at ps ≡ Took r → drop at s ≡ join ps ++ rest → print_record (held s r) ≡ join ps
+    pub record_back : (ps : List (List ℕ)) → read_parts last c at ps ≡ Ok r → drop at s ≡ join ps ++ rest → print_record (held s r) ≡ join ps
     unfolding print_record
     record_back ps h e = ap join (parts_back ps h e)

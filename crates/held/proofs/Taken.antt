@@ -18,8 +18,8 @@ use Rattle.row.specs.Row.{read_row}
 use Rattle.record_line.specs.Fields.{record_of}
 use Rattle.record_line.specs.Line.{number_in, read_fields}
 use Rattle.record.specs.declared.Record.{Record}
-use Rattle.record.specs.declared.Answer.TheVariants.{Took}
 use Rattle.held.proofs.Row.{Fine, row_fine}
+use Rattle.std.specs.Prelude.{Ok}
 
 module _ (last : ℕ) (c : Context) where
   -- The record may follow the last one, and nothing is wrong with its fields.
@@ -29,12 +29,12 @@ module _ (last : ℕ) (c : Context) where
     pub is : record_of n from fs ≡ r
 
   -- A record is taken so.
-  pub taken : (at n from : ℕ) (fs : List (List ℕ)) (r : Record) → read_fields last c at n from fs ≡ Took r → Taken n from fs r
+  pub taken : (at n from : ℕ) (fs : List (List ℕ)) (r : Record) → read_fields last c at n from fs ≡ Ok r → Taken n from fs r
   unfolding read_fields
   taken at n from fs r h =
       cases (eqb (follow last n) 0)
       (λ e. cases (eqb (read_row c n from fs).fault.number 0)
-      (λ f. let k : Took (record_of n from fs) ≡ Took r = simp (e, f) at h in
+      (λ f. let k : Ok (record_of n from fs) ≡ Ok r = simp (e, f) at h in
       record { follows = eqb-true _ _ e; fine = row_fine c n from fs (eqb-true _ _ f); is = cc })
       (λ f. absurd (let k = simp (e, f) at h in let z : ◌≡◌ {A = ℕ} 0 1 = cc in omega arith)))
       (λ e. absurd (let k = simp e at h in let z : ◌≡◌ {A = ℕ} 0 1 = cc in omega arith))

@@ -1,7 +1,7 @@
 -- What a record holds, its texts as their bytes; and the bytes that it is written as, each field from what it holds alone. Reading a file and writing one are
 -- stated over this.
 -- Assumes nothing.
-use Rattle.std.specs.Prelude.{ℕ, cond, List, [], ◌∷◌, map, eqb}
+use Rattle.std.specs.Prelude.{ℕ, cond, List, [], ◌∷◌, map, eqb, None, Option, Some}
 use Rattle.cells.specs.Text.{bytes}
 use Rattle.line.specs.Frame.{file}
 use Rattle.line.specs.Fields.{split, join}
@@ -15,10 +15,6 @@ use Rattle.row.specs.Table.{typed}
 use Rattle.record.specs.Record.{text_at, number_of, Column, columns}
 use Rattle.record.specs.Record as column
 use Rattle.record.specs.declared.Place.{Place}
-use Rattle.record.specs.declared.UsageCode.{UsageCode}
-use Rattle.record.specs.declared.UsageCode.TheVariants.{Is as usage_is, Empty as no_usage}
-use Rattle.record.specs.declared.SupplementCode.{SupplementCode}
-use Rattle.record.specs.declared.SupplementCode.TheVariants.{Is as supplement_is, Empty as no_supplement}
 use Rattle.record.specs.declared.Record.{Record}
 use Rattle.record.specs.declared.Record.TheVariants.{Issue, Rp, Usage, Supplement as Supply, Drug, Kept}
 
@@ -42,14 +38,14 @@ abbrev pub optional : ℕ → Value
 optional n = cond (eqb n 0) none (number n)
 
 -- A usage code where there is one,
-abbrev pub usage_value : UsageCode → Value
-usage_value (usage_is i) = usage i
-usage_value no_usage = none
+abbrev pub usage_value : Option Instruction → Value
+usage_value (Some i) = usage i
+usage_value None = none
 
 -- and a supplement.
-abbrev pub supplement_value : SupplementCode → Value
-supplement_value (supplement_is x) = supplement x
-supplement_value no_supplement = none
+abbrev pub supplement_value : Option Supplement → Value
+supplement_value (Some x) = supplement x
+supplement_value None = none
 
 -- A record by its number and its values.
 abbrev pub holding : ℕ → List Value → Held

@@ -14,11 +14,10 @@ ghost use Rattle.std.specs.Prelude.{◌≡◌, ◌<◌, take};
 ghost use Rattle.reader.specs.Said.{said_check};
 ghost use Rattle.reader.specs.File.{check_file};
 
-use date::{Date, Made};
+use date::Date;
 use days::DaySet;
 use printed::Piece;
-use reader::{Checked, Handed};
-use record::{Place, Record, Record101, Record181, Record201, SupplementCode};
+use record::{Place, Record, Record101, Record181, Record201, Refusal};
 use supplement::{Supplement, Week};
 
 // The columns of a drug's name, and of its amount with the space before it.
@@ -35,15 +34,15 @@ struct Bag {
 }
 
 // Checks a sheet, prints its labels, or the line that `report` has for a refusal, and hands back what it is read as.
-pub fn sheet(rt: &impl Print, s: &[u8]) -> Checked
+pub fn sheet(rt: &impl Print, s: &[u8]) -> Result<usize, Refusal>
     ensures { said_check result ≡ check_file s.now }
 {
     let r = reader::check(s);
     match r {
-        Checked::Records(_) => {
+        Ok(_) => {
             labels(rt, s);
         }
-        Checked::Refused(_) => {
+        Err(_) => {
             report::sheet(rt, s);
         }
     }
@@ -64,14 +63,14 @@ fn label_records(rt: &impl Print, s: &[u8], codes: &mut [u8]) {
         let step = sheet::step(s, t);
         let answer = step.next;
         match answer {
-            Handed::Record(r) => {
+            Ok(Some(r)) => {
                 bag = with_record(rt, s, bag, r, codes);
                 t = step.state;
             }
-            Handed::Refused(_) => {
+            Err(_) => {
                 return;
             }
-            Handed::End => {
+            Ok(None) => {
                 return print(rt, b"\n");
             }
         }
@@ -127,8 +126,8 @@ fn with_rp(rt: &impl Print, bag: Bag, x: Record101) -> Bag {
 // The date made again with no style named.
 fn issue_date(rt: &impl Print, t: Date) {
     match Date::of(t.year, t.month, t.day) {
-        Made::Day(d) => print_right(rt, printed::day(d), 0),
-        Made::None(_) => {}
+        Ok(d) => print_right(rt, printed::day(d), 0),
+        Err(_) => {}
     }
 }
 
@@ -140,8 +139,8 @@ fn with_line(rt: &impl Print, s: &[u8], bag: Bag, p: Place) -> Bag {
 fn with_supplement(rt: &impl Print, s: &[u8], bag: Bag, x: Record181, codes: &mut [u8]) -> Bag {
     let code = x.code;
     match code {
-        SupplementCode::Is(c) => with_code(rt, bag, c, codes),
-        SupplementCode::Empty => with_line(rt, s, bag, x.text),
+        Some(c) => with_code(rt, bag, c, codes),
+        None => with_line(rt, s, bag, x.text),
     }
 }
 

@@ -12,19 +12,19 @@ use Rattle.cells.proofs.Alike.{and_parts}
 use Rattle.number.specs.Number.{none, said, figure, figures, value, shortest, read_number}
 use Rattle.number.specs.Amount.{before, after, pointed, fraction, amount, hundred_thousandths, read_amount}
 use Rattle.number.specs.Print.{digits, print_number, decimals, print_amount}
-use Rattle.number.specs.declared.Number.{Number}
-use Rattle.number.specs.declared.Number.TheVariants.{Is, Not}
 use Rattle.number.proofs.Print.{printed, amount_printed}
+use Rattle.std.specs.Prelude.{Err, Ok, Result, ℕ}
+use Rattle.cells.specs.declared.Fault.{Fault}
 
 -- Two readings of which document 01's number and values are the same are equal.
-pub one_reading : (a b : Number) → said a ≡ said b → a ≡ b
-one_reading (Is m) (Is n) e = cc
-one_reading (Is m) (Not g) e = cc
-one_reading (Not f) (Is n) e = cc
-one_reading (Not f) (Not g) e =
+pub one_reading : (a b : Result ℕ Fault) → said a ≡ said b → a ≡ b
+one_reading (Ok m) (Ok n) e = cc
+one_reading (Ok m) (Err g) e = cc
+one_reading (Err f) (Ok n) e = cc
+one_reading (Err f) (Err g) e =
     let a : f.number ≡ g.number = cc in
     let b : f.place ≡ g.place = cc in
-    λ i. Not (record { number = a i; place = b i })
+    λ i. Err (record { number = a i; place = b i })
 
 taken : (b : Bool) (v n : ℕ) → cond b (took v) none ≡ took n → (b ≡ true) × (v ≡ n)
 taken true v n h = (refl, cc)

@@ -1,18 +1,17 @@
 -- Numbers as a field writes them. "Numbers have no leading zeros."
 -- Assumes nothing.
-use Rattle.std.specs.Prelude.{ℕ, ◌+◌, ◌-◌, ◌*◌, Bool, true, cond, not, ◌&&◌, ◌||◌, List, [], ◌∷◌, leb, eqb, length, get_or}
+use Rattle.std.specs.Prelude.{ℕ, ◌+◌, ◌-◌, ◌*◌, Bool, true, cond, not, ◌&&◌, ◌||◌, List, [], ◌∷◌, leb, eqb, length, get_or, Err, Ok, Result}
 use Rattle.cells.specs.Test.{Answer, took, refused}
-use Rattle.number.specs.declared.Number.{Number}
-use Rattle.number.specs.declared.Number.TheVariants.{Is, Not}
+use Rattle.cells.specs.declared.Fault.{Fault}
 
 -- "27 number, date, amount, site or drug code": a field that is none, of whichever kind was asked for.
 abbrev pub none : {A : Type 0} → Answer A
 none = refused 27 0
 
 -- Document 01's number and values of what a field is read as.
-abbrev pub said : Number → Answer ℕ
-said (Is n) = took n
-said (Not f) = refused f.number f.place
+abbrev pub said : Result ℕ Fault → Answer ℕ
+said (Ok n) = took n
+said (Err f) = refused f.number f.place
 
 -- A digit, 0 to 9.
 unfoldable pub figure : ℕ → Bool

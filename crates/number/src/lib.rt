@@ -8,18 +8,11 @@ ghost use Rattle.number.specs.Code.Parts.{whole_number, within as within_of, aft
 
 use cells::Fault;
 
-// A field's value, or why it is none of the form and range asked for.
-#[derive(Clone, Copy)]
-pub enum Number {
-    Is(u64),
-    Not(Fault),
-}
-
 // No number, no amount: 27.
-fn none() -> Number
+fn none() -> Result<u64, Fault>
     ensures { said result ≡ no_number }
 {
-    Number::Not(Fault {
+    Err(Fault {
         number: 27,
         place: 0,
     })
@@ -91,7 +84,7 @@ fn shortest(s: &[u8]) -> bool
     figures(s) & ((s.len() == 1) | (s[0] != b'0'))
 }
 
-fn within(n: u64, lo: u64, hi: u64) -> Number
+fn within(n: u64, lo: u64, hi: u64) -> Result<u64, Fault>
     ensures { said result ≡ within_of lo hi n }
 {
     if n < lo {
@@ -100,7 +93,7 @@ fn within(n: u64, lo: u64, hi: u64) -> Number
     if hi < n {
         return none();
     }
-    Number::Is(n)
+    Ok(n)
 }
 
 // At most five digits as their number; 100000, which is above five digits and above any hi, where a byte is no digit.
@@ -122,7 +115,7 @@ fn whole_number(s: &[u8]) -> u64
 }
 
 // A number from lo to hi. One of more than five digits is above any hi.
-pub fn read(s: &[u8], lo: u16, hi: u16) -> Number
+pub fn read(s: &[u8], lo: u16, hi: u16) -> Result<u64, Fault>
     ensures { said result ≡ read_number lo hi s.now }
 {
     if 5 < s.len() {
@@ -166,30 +159,30 @@ fn fraction(s: &[u8]) -> bool
 }
 
 // The amount whose whole part is n and whose digits after the point are these.
-fn after_point(s: &[u8], n: u64) -> Number
+fn after_point(s: &[u8], n: u64) -> Result<u64, Fault>
     requires { n < 10 ^ 6 }
     ensures { said result ≡ after_point n s.now }
 {
     if fraction(s) {
-        return Number::Is(with_zeros(value(s, n), 5 - s.len()));
+        return Ok(with_zeros(value(s, n), 5 - s.len()));
     }
     none()
 }
 
 // The amount whose whole part is n, and ends at a place: there the point stands, or nothing.
-fn with_fraction(s: &[u8], at: usize, n: u64) -> Number
+fn with_fraction(s: &[u8], at: usize, n: u64) -> Result<u64, Fault>
     requires { (at ≡ length (before s.now)) × (n < 10 ^ 6) }
     ensures { said result ≡ with_fraction n s.now }
 {
     if at == s.len() {
-        return Number::Is(with_zeros(n, 5));
+        return Ok(with_zeros(n, 5));
     }
     let from = at + 1;
     after_point(&s[from..], n)
 }
 
 // An amount, in hundred-thousandths.
-pub fn read_amount(s: &[u8]) -> Number
+pub fn read_amount(s: &[u8]) -> Result<u64, Fault>
     ensures { said result ≡ read_amount s.now }
 {
     let at = point(s);

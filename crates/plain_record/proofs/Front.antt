@@ -6,16 +6,15 @@ use mathlib.Core.List.{List, [], ◌++◌, append_assoc, append-nil}
 use native.Mathlib.Omega.{arith}
 use lib.ListN.{length, take, drop, replicate, length-append, length-replicate, replicate-append-replicate, drop_of_length-le}
 use lib.Seq.{sets, sets-eq, length-sets, length-take-le, drop-append-add}
-use Rattle.record.specs.declared.UsageCode.{UsageCode}
-use Rattle.record.specs.declared.UsageCode.TheVariants.{Is as usage_is, Empty as no_usage}
-use Rattle.record.specs.declared.SupplementCode.{SupplementCode}
-use Rattle.record.specs.declared.SupplementCode.TheVariants.{Is as supplement_is, Empty as no_supplement}
 use Rattle.record.specs.declared.Record111.{Record111}
 use Rattle.record.specs.declared.Record181.{Record181}
 use Rattle.plain.specs.Held.{filled}
 use Rattle.record.specs.declared.Record.TheVariants.{Usage, Supplement as Supply}
 use Rattle.plain_record.specs.Records.{record_width, usage_code, supplement_code, numbers_of}
 use Rattle.plain_record.specs.Code.Front.{front_width, with_front}
+use Rattle.std.specs.Prelude.{None, Option, Some}
+use Rattle.usage.specs.declared.Instruction.{Instruction}
+use Rattle.supplement.specs.declared.Supplement.{Supplement}
 
 -- so many 0s
 abbrev zeros : ℕ → List ℕ
@@ -43,17 +42,17 @@ further a b s h l =
 pub most_usage : (x : Record111) → length (numbers_of (Usage x)) ≤ record_width
 most_usage x = by x.code
   where
-    by : (u : UsageCode) → suc (suc (suc (suc (suc (suc (length (usage_code u))))))) ≤ record_width
-    by (usage_is i) = omega arith
-    by no_usage = omega arith
+    by : (u : Option Instruction) → suc (suc (suc (suc (suc (suc (length (usage_code u))))))) ≤ record_width
+    by (Some i) = omega arith
+    by None = omega arith
 
 -- the same of a supplementary code.
 pub most_supplement : (x : Record181) → length (numbers_of (Supply x)) ≤ record_width
 most_supplement x = by x.code
   where
-    by : (u : SupplementCode) → suc (suc (suc (suc (suc (suc (suc (suc (length (supplement_code u))))))))) ≤ record_width
-    by (supplement_is s) = omega arith
-    by no_supplement = omega arith
+    by : (u : Option Supplement) → suc (suc (suc (suc (suc (suc (suc (suc (length (supplement_code u))))))))) ≤ record_width
+    by (Some s) = omega arith
+    by None = omega arith
 
 module _ (n : List ℕ) (h : length n ≡ record_width) where
   -- what the numbers after the front are cleared to

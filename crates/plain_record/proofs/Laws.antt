@@ -10,10 +10,6 @@ use borrow.Author.Tests.{ne_eqb}
 use lib.Dec.{eqb}
 use lib.ListN.{length, get_or, drop, replicate, length-drop, get_or-append}
 use lib.Seq.{drop-append-le}
-use Rattle.record.specs.declared.UsageCode.{UsageCode}
-use Rattle.record.specs.declared.UsageCode.TheVariants.{Is as usage_is}
-use Rattle.record.specs.declared.SupplementCode.{SupplementCode}
-use Rattle.record.specs.declared.SupplementCode.TheVariants.{Is as supplement_is}
 use Rattle.record.specs.declared.Record.{Record}
 use Rattle.record.specs.declared.Record.TheVariants.{Issue, Rp, Usage, Supplement as Supply, Drug, Kept}
 use Rattle.plain.specs.Held.{byte, half}
@@ -22,18 +18,21 @@ use Rattle.plain_record.specs.Records.{usage_code, usage_by, usage_code_of, supp
 use Rattle.plain_record.specs.Fits.{FitsUsageCode, FitsSupplementCode, FitsRecord}
 use Rattle.plain_record.specs.Fits as Fits
 use Rattle.plain.proofs.Laws.{at, usage_back, supplement_back, usage_left_over, supplement_left_over}
+use Rattle.std.specs.Prelude.{Option, Some}
+use Rattle.usage.specs.declared.Instruction.{Instruction}
+use Rattle.supplement.specs.declared.Supplement.{Supplement}
 
 -- A usage code in a record, with 0s after it.
-code_back : {u : UsageCode} → FitsUsageCode u → (k : ℕ) → usage_code_of (usage_code u ++ replicate k 0) ≡ u
+code_back : {u : Option Instruction} → FitsUsageCode u → (k : ℕ) → usage_code_of (usage_code u ++ replicate k 0) ≡ u
 unfolding usage_by
-code_back (Fits.is {i} w filled) k = rw (ne_eqb i.class 0 filled) (ap usage_is (usage_back w))
+code_back (Fits.is {i} w filled) k = rw (ne_eqb i.class 0 filled) (ap Some (usage_back w))
 code_back Fits.empty zero = refl
 code_back Fits.empty (suc k) = refl
 
 -- The same of a supplementary code.
-supplement_code_back : {u : SupplementCode} → FitsSupplementCode u → (k : ℕ) → supplement_code_of (supplement_code u ++ replicate k 0) ≡ u
+supplement_code_back : {u : Option Supplement} → FitsSupplementCode u → (k : ℕ) → supplement_code_of (supplement_code u ++ replicate k 0) ≡ u
 unfolding supplement_by
-supplement_code_back (Fits.is {x} w filled) k = rw (ne_eqb x.letter 0 filled) (ap supplement_is (supplement_back w))
+supplement_code_back (Fits.is {x} w filled) k = rw (ne_eqb x.letter 0 filled) (ap Some (supplement_back w))
 supplement_code_back Fits.empty zero = refl
 supplement_code_back Fits.empty (suc k) = refl
 

@@ -1,12 +1,8 @@
 -- What fits the places that it is held in: then its numbers are held as itself (`proofs/Laws.antt`).
 -- Assumes nothing.
-use Rattle.std.specs.Prelude.{◌≤◌, ◌≡◌, [], ◌∷◌}
+use Rattle.std.specs.Prelude.{◌≤◌, ◌≡◌, [], ◌∷◌, None, Option, Some}
 use Rattle.usage.specs.declared.Instruction.{Instruction}
 use Rattle.supplement.specs.declared.Supplement.{Supplement}
-use Rattle.record.specs.declared.UsageCode.{UsageCode}
-use Rattle.record.specs.declared.UsageCode.TheVariants.{Is as usage_is, Empty as no_usage}
-use Rattle.record.specs.declared.SupplementCode.{SupplementCode}
-use Rattle.record.specs.declared.SupplementCode.TheVariants.{Is as supplement_is, Empty as no_supplement}
 use Rattle.record.specs.declared.Record51.{Record51}
 use Rattle.record.specs.declared.Record101.{Record101}
 use Rattle.record.specs.declared.Record111.{Record111}
@@ -18,14 +14,14 @@ use Rattle.record.specs.declared.Record.TheVariants.{Issue, Rp, Usage, Supplemen
 use Rattle.plain.specs.Fits.{Within, FitsUsage, FitsSupplement}
 
 -- A code in a record, whose first number is not 0 where it is there.
-pub data FitsUsageCode : UsageCode → Type 0 where
-  is : {i : Instruction} → FitsUsage i → (i.class ≡ 0 → ⊥) → FitsUsageCode (usage_is i)
-  empty : FitsUsageCode no_usage
+pub data FitsUsageCode : Option Instruction → Type 0 where
+  is : {i : Instruction} → FitsUsage i → (i.class ≡ 0 → ⊥) → FitsUsageCode (Some i)
+  empty : FitsUsageCode None
 
 -- The same of a supplementary code.
-pub data FitsSupplementCode : SupplementCode → Type 0 where
-  is : {x : Supplement} → FitsSupplement x → (x.letter ≡ 0 → ⊥) → FitsSupplementCode (supplement_is x)
-  empty : FitsSupplementCode no_supplement
+pub data FitsSupplementCode : Option Supplement → Type 0 where
+  is : {x : Supplement} → FitsSupplement x → (x.letter ≡ 0 → ⊥) → FitsSupplementCode (Some x)
+  empty : FitsSupplementCode None
 
 -- A record. One that is kept has none of the other numbers.
 pub data FitsRecord : Record → Type 0 where

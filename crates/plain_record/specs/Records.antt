@@ -1,15 +1,11 @@
 -- Records as numbers: the record's own, then its fields in the order of document 01's table, but the code last, then 0s. A number is itself, a text
 -- its place in the file (from, to), a code its numbers, a date its era (0 in western style), year, month and day.
 -- Assumes nothing.
-use Rattle.std.specs.Prelude.{ℕ, cond, List, [], ◌∷◌, ◌++◌, eqb, get_or, drop}
+use Rattle.std.specs.Prelude.{ℕ, cond, List, [], ◌∷◌, ◌++◌, eqb, get_or, drop, None, Option, Some}
 use Rattle.usage.specs.declared.Instruction.{Instruction}
 use Rattle.supplement.specs.declared.Supplement.{Supplement}
 use Rattle.record.specs.Record.{number_of, Column, number, optional, amount, text, day, usage, supplement, columns}
 use Rattle.record.specs.declared.Place.{Place}
-use Rattle.record.specs.declared.UsageCode.{UsageCode}
-use Rattle.record.specs.declared.UsageCode.TheVariants.{Is as usage_is, Empty as no_usage}
-use Rattle.record.specs.declared.SupplementCode.{SupplementCode}
-use Rattle.record.specs.declared.SupplementCode.TheVariants.{Is as supplement_is, Empty as no_supplement}
 use Rattle.record.specs.declared.Record51.{Record51}
 use Rattle.record.specs.declared.Record101.{Record101}
 use Rattle.record.specs.declared.Record111.{Record111}
@@ -26,14 +22,14 @@ abbrev pub record_width : ℕ
 record_width = 40
 
 -- A code that is empty has no numbers: 0s stand in its place, and no code's first number is 0.
-abbrev pub usage_code : UsageCode → List ℕ
-usage_code (usage_is i) = usage_numbers i
-usage_code no_usage = []
+abbrev pub usage_code : Option Instruction → List ℕ
+usage_code (Some i) = usage_numbers i
+usage_code None = []
 
 -- The same of a supplementary code.
-abbrev pub supplement_code : SupplementCode → List ℕ
-supplement_code (supplement_is x) = supplement_numbers x
-supplement_code no_supplement = []
+abbrev pub supplement_code : Option Supplement → List ℕ
+supplement_code (Some x) = supplement_numbers x
+supplement_code None = []
 
 -- What columns are as numbers, but for codes: a number is itself, a text its place in the file (from, to), a date its era, year, month and day.
 abbrev pub plain_in : List Column → List ℕ
@@ -66,19 +62,19 @@ abbrev pub record_numbers : Record → List ℕ
 record_numbers r = filled record_width (numbers_of r)
 
 -- Back: a code whose first number is 0 is empty.
-unfoldable pub usage_by : ℕ → Instruction → UsageCode
-usage_by first i = cond (eqb first 0) no_usage (usage_is i)
+unfoldable pub usage_by : ℕ → Instruction → Option Instruction
+usage_by first i = cond (eqb first 0) None (Some i)
 
 -- What any numbers are held as.
-abbrev pub usage_code_of : List ℕ → UsageCode
+abbrev pub usage_code_of : List ℕ → Option Instruction
 usage_code_of n = usage_by (get_or n 0 0) (instruction_of n)
 
 -- The same of a supplementary code.
-unfoldable pub supplement_by : ℕ → Supplement → SupplementCode
-supplement_by first x = cond (eqb first 0) no_supplement (supplement_is x)
+unfoldable pub supplement_by : ℕ → Supplement → Option Supplement
+supplement_by first x = cond (eqb first 0) None (Some x)
 
 -- What any numbers are held as.
-abbrev pub supplement_code_of : List ℕ → SupplementCode
+abbrev pub supplement_code_of : List ℕ → Option Supplement
 supplement_code_of n = supplement_by (get_or n 0 0) (supplement_of n)
 
 -- A text by its two offsets.

@@ -10,10 +10,7 @@ ghost use Rattle.plain_record.specs.Code.Front.{with_front};
 use counter::{DrugSerial, RpNumber, SupplementSerial};
 use date::Date;
 use plain::{SUPPLEMENT, USAGE};
-use record::{
-    Kept, Place, Record, Record51, Record101, Record111, Record181, Record201, SupplementCode,
-    UsageCode,
-};
+use record::{Kept, Place, Record, Record51, Record101, Record111, Record181, Record201};
 use supplement::Supplement;
 use usage::Instruction;
 
@@ -90,7 +87,7 @@ fn put_111(x: Record111, n: &mut [u64; RECORD])
     n[4] = x.name.to as u64;
     n[5] = x.times as u64;
     let code = x.code;
-    if let UsageCode::Is(i) = code {
+    if let Some(i) = code {
         let mut c = [0; USAGE];
         plain::put_usage(i, &mut c);
         put(n, 6, &c);
@@ -111,7 +108,7 @@ fn put_181(x: Record181, n: &mut [u64; RECORD])
     n[6] = x.site.from as u64;
     n[7] = x.site.to as u64;
     let code = x.code;
-    if let SupplementCode::Is(s) = code {
+    if let Some(s) = code {
         let mut c = [0; SUPPLEMENT];
         plain::put_supplement(s, &mut c);
         put(n, 8, &c);
@@ -163,31 +160,31 @@ pub fn put_record(r: Record, n: &mut [u64; RECORD])
 }
 
 // A code whose first number is 0 is empty.
-fn usage_by(first: u64, i: Instruction) -> UsageCode
+fn usage_by(first: u64, i: Instruction) -> Option<Instruction>
     ensures { result ≡ usage_by first i }
 {
     if first == 0 {
-        return UsageCode::Empty;
+        return None;
     }
-    UsageCode::Is(i)
+    Some(i)
 }
 
-fn usage_code_of(n: &[u64]) -> UsageCode
+fn usage_code_of(n: &[u64]) -> Option<Instruction>
     ensures { result ≡ usage_code_of n.now }
 {
     usage_by(plain::at(n, 0), plain::instruction(n))
 }
 
-fn supplement_by(first: u64, x: Supplement) -> SupplementCode
+fn supplement_by(first: u64, x: Supplement) -> Option<Supplement>
     ensures { result ≡ supplement_by first x }
 {
     if first == 0 {
-        return SupplementCode::Empty;
+        return None;
     }
-    SupplementCode::Is(x)
+    Some(x)
 }
 
-fn supplement_code_of(n: &[u64]) -> SupplementCode
+fn supplement_code_of(n: &[u64]) -> Option<Supplement>
     ensures { result ≡ supplement_code_of n.now }
 {
     supplement_by(plain::at(n, 0), plain::supplement(n))

@@ -15,7 +15,6 @@ use Rattle.date.specs.declared.Date.{Date}
 use Rattle.date.proofs.Laws as dates
 use Rattle.usage.specs.Usage.{read_usage}
 use Rattle.usage.specs.declared.Instruction.{Instruction}
-use Rattle.usage.specs.declared.Reading.TheVariants.{Taken, Refused}
 use Rattle.usage_writer.specs.Writes.{WritesUsage}
 use Rattle.usage_writer.specs.Print as usages
 use Rattle.usage_writer.specs.Code.Write.{answer as usage_answer}
@@ -29,6 +28,7 @@ use Rattle.supplement_writer.proofs.Writing as supplements-writing
 use Rattle.text.specs.Lent.{no_field}
 use Rattle.printed.specs.Printed.{date_field, reads_as, usage_field, supplement_field}
 use Rattle.printed.proofs.Held.{long, held, none, reads}
+use Rattle.std.specs.Prelude.{Err, Ok}
 
 -- ---- dates
 -- A date is written in its own style.
@@ -56,8 +56,8 @@ date_reads t u h =
 
 -- ---- usage codes
 answered : (i : Instruction) (a : Answer Instruction) → a ≡ read_usage (usages.raw i) → WritesUsage i (usage_answer (reads_as a i) (usages.raw i))
-answered i (took j) e = usages-writing.written i (Taken j) e
-answered i (refused n p) e = usages-writing.written i (Refused (record { number = n; place = p })) e
+answered i (took j) e = usages-writing.written i (Ok j) e
+answered i (refused n p) e = usages-writing.written i (Err (record { number = n; place = p })) e
 
 usage_written : (i : Instruction) → WritesUsage i (usage_answer (reads_as (read_usage (usages.raw i)) i) (usages.raw i))
 usage_written i = answered i (read_usage (usages.raw i)) refl

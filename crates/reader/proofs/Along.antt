@@ -23,8 +23,6 @@ use Rattle.record.specs.Record.{start, after, supplements}
 use Rattle.record_line.specs.Line.{refusal, read_parts, line_after, line_at}
 use Rattle.record.specs.declared.Record.{Record}
 use Rattle.record.specs.declared.Refusal.{Refusal}
-use Rattle.record.specs.declared.Answer.{Answer}
-use Rattle.record.specs.declared.Answer.TheVariants.{Took, Refused}
 use Rattle.record_line.proofs.Same.{same_parts}
 use Rattle.record_line.proofs.Leaves.{Keeps, keeps_on}
 use Rattle.reader.specs.Open.{file_fault}
@@ -33,6 +31,7 @@ use Rattle.reader.specs.Reader.{open_file, end_at, said_again, closing, on, next
 use Rattle.reader.specs.declared.State.{State}
 use Rattle.reader.specs.Said.{Next, Hands, Refuses, End, Turn}
 use Rattle.reader.proofs.Lines.{Opened, opens, kept, line_fields, no_end, took_inside, after_line, at_end}
+use Rattle.std.specs.Prelude.{Err, Ok, Result}
 
 -- an answer that leaves the state as it was, and one that hands out a record and goes on
 abbrev pub stays : State → Next → Turn
@@ -43,7 +42,7 @@ goes t r next = record { next = Hands r; state = record { number = 0; at = next;
 
 -- ---- one call, on any bytes and in any state
 module _ (s : List ℕ) (t : State) where
-  abbrev line_here : Answer
+  abbrev line_here : Result Record Refusal
   line_here = read_parts t.sofar.last (context t.sofar.before) t.at (fields_at s t.at)
 
   -- a reader that is not refused, at the end and at a line
@@ -51,9 +50,9 @@ module _ (s : List ℕ) (t : State) where
   unfolding next_record
   at_close z e = simp (eq-eqb _ _ z, e)
 
-  on_answer : (a : Answer) (n : ℕ) → on t (line_after t.sofar a n).answer (line_after t.sofar a n).next ≡ on t a n
-  on_answer (Took r) n = refl
-  on_answer (Refused f) n = refl
+  on_answer : (a : Result Record Refusal) (n : ℕ) → on t (line_after t.sofar a n).answer (line_after t.sofar a n).next ≡ on t a n
+  on_answer (Ok r) n = refl
+  on_answer (Err f) n = refl
 
   at_line : t.number ≡ 0 → end_at s t.at ≡ false →
       next_record s t ≡ on t line_here (t.at + length (join (fields_at s t.at)) + 2)
@@ -81,10 +80,10 @@ module _ (s : List ℕ) (t : State) where
       ending z i true e k = g z i e (k ∙ simp e)
       ending z i false e k = f (refusal 32 t.at) (k ∙ simp e)
 
-      answering : t.number ≡ 0 → (a : Answer) → line_here ≡ a →
+      answering : t.number ≡ 0 → (a : Result Record Refusal) → line_here ≡ a →
           next_record s t ≡ on t a (t.at + length (join (fields_at s t.at)) + 2) → P
-      answering z (Took r) e k = h r _ z (took_inside s t.at t.sofar.last (context t.sofar.before) r e) (omega arith) k
-      answering z (Refused q) e k = f q k
+      answering z (Ok r) e k = h r _ z (took_inside s t.at t.sofar.last (context t.sofar.before) r e) (omega arith) k
+      answering z (Err q) e k = f q k
 
   -- a call that stays is answered so ever after
   pub rests : (n : ℕ) → (next_record s t).state ≡ t → call n s t ≡ (next_record s t).next
@@ -106,7 +105,7 @@ pub record Along (s : List ℕ) (t : State) (ls : List (List ℕ)) (xs : List Su
 
 module _ (s : List ℕ) (t : State) (l : List ℕ) (ls : List (List ℕ)) (xs : List Supplement) (a : Along s t (l ∷ ls) xs) where
   -- what the line is read as
-  abbrev answer : Answer
+  abbrev answer : Result Record Refusal
   answer = read_parts t.sofar.last (in_list t.sofar.before xs) t.at (split l)
 
   plain_line_lem : plain_line l ≡ true
@@ -125,10 +124,10 @@ module _ (s : List ℕ) (t : State) (l : List ℕ) (ls : List (List ℕ)) (xs : 
   line_step =
       let e : fields_at s t.at ≡ split l = line_fields s t.at l (0x0a ∷ file ls) here plain_line_lem in
       at_line s t a.number (no_end s t.at l (0x0a ∷ file ls) here plain_line_lem)
-      ∙ rw (e, join_split l) (ap (λ (w : Answer). on t w (t.at + length l + 2)) (same_parts _ _ alike t.sofar.last t.sofar.before t.at (split l)))
+      ∙ rw (e, join_split l) (ap (λ (w : Result Record Refusal). on t w (t.at + length l + 2)) (same_parts _ _ alike t.sofar.last t.sofar.before t.at (split l)))
 
   -- after a record that is taken, the other lines
-  line_after_lem : (r : Record) → answer ≡ Took r → Along s (goes t r (t.at + length l + 2)).state ls (supplements xs r)
+  line_after_lem : (r : Record) → answer ≡ Ok r → Along s (goes t r (t.at + length l + 2)).state ls (supplements xs r)
   unfolding plain_lines
   line_after_lem r h =
       record {
@@ -164,14 +163,14 @@ module _ (s : List ℕ) (t : State) (f : File) {P : Type 0}
       others : Record → File
       others r = read_lines m (after t.sofar.before r) (supplements xs r) ls
 
-      by : (w : Answer) → answer s t l ls xs a ≡ w → P
-      by (Took r) e =
-          let k : next_record s t ≡ goes t r m = line_step s t l ls xs a ∙ ap (λ (w : Answer). on t w m) e in
+      by : (w : Result Record Refusal) → answer s t l ls xs a ≡ w → P
+      by (Ok r) e =
+          let k : next_record s t ≡ goes t r m = line_step s t l ls xs a ∙ ap (λ (w : Result Record Refusal). on t w m) e in
           go r (others r) (ap (λ (w : Turn). w.next) k)
           (subst (λ (w : Turn). Tells s w.state (others r)) (sym k) (along ls (supplements xs r) (line_after_lem s t l ls xs a r e) refl))
-          (q ∙ ap (λ (w : Answer). upon w others) e)
-      by (Refused n) e =
-          stop (stopped n) (line_step s t l ls xs a ∙ ap (λ (w : Answer). on t w m) e) (q ∙ ap (λ (w : Answer). upon w others) e)
+          (q ∙ ap (λ (w : Result Record Refusal). upon w others) e)
+      by (Err n) e =
+          stop (stopped n) (line_step s t l ls xs a ∙ ap (λ (w : Result Record Refusal). on t w m) e) (q ∙ ap (λ (w : Result Record Refusal). upon w others) e)
 
   -- it ends here, or a record is handed out, and the rest is left
   pub by_rest : Tells s t f → P

@@ -14,8 +14,6 @@ use Rattle.order.specs.Order.{Begins, Sheet}
 use Rattle.order.specs.Next as Next
 use Rattle.record.specs.declared.Record.{Record}
 use Rattle.record.specs.declared.Refusal.{Refusal}
-use Rattle.record.specs.declared.Answer.{Answer}
-use Rattle.record.specs.declared.Answer.TheVariants.{Took, Refused as Stops}
 use Rattle.record_line.specs.Line.{read_parts, line_after, line_at, passed_of}
 use Rattle.line.specs.Fields.{join, fields_at}
 use Rattle.record.specs.declared.Line.{Line}
@@ -25,17 +23,13 @@ use Rattle.reader.specs.Open.{file_fault}
 use Rattle.reader.specs.File.{File, Ending, whole, stopped, read_file, checked_as, check_file}
 use Rattle.reader.specs.Reader.{on, open_file, next_record, call, ending_of, answer_at}
 use Rattle.reader.specs.declared.State.{State}
-use Rattle.reader.specs.declared.Handed.{Handed}
-use Rattle.reader.specs.declared.Handed.TheVariants.{Record as HandedRecord, Refused as HandedRefusal, End as HandedEnd}
 use Rattle.reader.specs.declared.Step.{Step}
-use Rattle.reader.specs.declared.Checked.{Checked}
-use Rattle.reader.specs.declared.Checked.TheVariants.{Records as CheckedRecords, Refused as CheckedRefusal}
 use Rattle.reader.specs.Said.{Next, Hands, Refuses, End, Turn, Records, Not, said_next, said, said_check}
-use Rattle.reader.specs.declared.Gone.TheVariants.{On, Refused, End as AtEnd}
 use Rattle.reader.specs.Code.Gone.{moves_on, gone, gone_of, gone_by}
 use Rattle.reader.proofs.Lines.{end_there}
 use Rattle.reader.proofs.Order.{stand}
 use Rattle.reader.proofs.Along.{by_call, rests, Tells, by_rest, from_opening}
+use Rattle.std.specs.Prelude.{Err, None, Ok, Option, Result, Some, ℕ}
 
 abbrev next_of : Turn → Next
 next_of w = w.next
@@ -52,27 +46,27 @@ pub record Ends (s : List ℕ) (t : State) : Type 0 where
 
 -- ---- one answer
 -- Two answers of a call that say the same are one,
-pub one_handed : (a b : Handed) → said_next a ≡ said_next b → a ≡ b
-one_handed (HandedRecord r) (HandedRecord q) e = cc
-one_handed (HandedRecord r) (HandedRefusal g) e = cc
-one_handed (HandedRecord r) HandedEnd e = cc
-one_handed (HandedRefusal f) (HandedRecord q) e = cc
-one_handed (HandedRefusal f) (HandedRefusal g) e = cc
-one_handed (HandedRefusal f) HandedEnd e = cc
-one_handed HandedEnd (HandedRecord q) e = cc
-one_handed HandedEnd (HandedRefusal g) e = cc
-one_handed HandedEnd HandedEnd e = refl
+pub one_handed : (a b : Result (Option Record) Refusal) → said_next a ≡ said_next b → a ≡ b
+one_handed (Ok (Some r)) (Ok (Some q)) e = cc
+one_handed (Ok (Some r)) (Err g) e = cc
+one_handed (Ok (Some r)) (Ok None) e = cc
+one_handed (Err f) (Ok (Some q)) e = cc
+one_handed (Err f) (Err g) e = cc
+one_handed (Err f) (Ok None) e = cc
+one_handed (Ok None) (Ok (Some q)) e = cc
+one_handed (Ok None) (Err g) e = cc
+one_handed (Ok None) (Ok None) e = refl
 
 -- with the state to go on with,
 pub one_step : (a b : Step) → said a ≡ said b → a ≡ b
 one_step a b e = λ i. record { next = one_handed a.next b.next (λ j. (e j).next) i; state = (e i).state }
 
 -- and so are two answers of checking.
-pub one_check : (a b : Checked) → said_check a ≡ said_check b → a ≡ b
-one_check (CheckedRecords n) (CheckedRecords m) e = cc
-one_check (CheckedRecords n) (CheckedRefusal g) e = cc
-one_check (CheckedRefusal f) (CheckedRecords m) e = cc
-one_check (CheckedRefusal f) (CheckedRefusal g) e = cc
+pub one_check : (a b : Result ℕ Refusal) → said_check a ≡ said_check b → a ≡ b
+one_check (Ok n) (Ok m) e = cc
+one_check (Ok n) (Err g) e = cc
+one_check (Err f) (Ok m) e = cc
+one_check (Err f) (Err g) e = cc
 
 -- ---- one call
 module _ (s : List ℕ) (t : State) where
@@ -179,13 +173,13 @@ no_record (stopped f) r h = let z : ◌≡◌ {A = ℕ} 0 1 = cc in omega arith
 
 -- A line leaves what the call does,
 module _ (t : State) where
-  after_line : (a : Answer) (n : ℕ) → let l = line_after t.sofar a n in moves_on t l.answer l.next l.sofar ≡ on t l.answer l.next
-  after_line (Took r) n = refl
-  after_line (Stops f) n = refl
+  after_line : (a : Result Record Refusal) (n : ℕ) → let l = line_after t.sofar a n in moves_on t l.answer l.next l.sofar ≡ on t l.answer l.next
+  after_line (Ok r) n = refl
+  after_line (Err f) n = refl
 
-  after_passed : (a : Answer) (n : ℕ) → let l = line_after t.sofar a n in gone_by (passed_of l) ≡ gone_of (on t l.answer l.next)
-  after_passed (Took r) n = refl
-  after_passed (Stops f) n = refl
+  after_passed : (a : Result Record Refusal) (n : ℕ) → let l = line_after t.sofar a n in gone_by (passed_of l) ≡ gone_of (on t l.answer l.next)
+  after_passed (Ok r) n = refl
+  after_passed (Err f) n = refl
 
   abbrev line_of : List ℕ → Line
   line_of s = line_at t.sofar.last (context t.sofar.before) s t.at
@@ -200,17 +194,17 @@ module _ (t : State) where
   line_gone s = after_passed (read_parts t.sofar.last (context t.sofar.before) t.at (fields_at s t.at)) (t.at + length (join (fields_at s t.at)) + 2)
 
 -- and what it says of the call.
-on_by : {P : Type 0} (h : Next) (t u : State) → gone h t ≡ On u → ((r : Record) → h ≡ Hands r → t ≡ u → P) → P
+on_by : {P : Type 0} (h : Next) (t u : State) → gone h t ≡ Ok (Some u) → ((r : Record) → h ≡ Hands r → t ≡ u → P) → P
 on_by (Hands r) t u e k = k r refl (let z : t ≡ u = cc in z)
 on_by (Refuses f) t u e k = absurd (let z : ◌≡◌ {A = ℕ} 0 1 = cc in omega arith)
 on_by End t u e k = absurd (let z : ◌≡◌ {A = ℕ} 0 1 = cc in omega arith)
 
-refused_by : (h : Next) (t : State) (f : Refusal) → gone h t ≡ Refused f → h ≡ Refuses f
+refused_by : (h : Next) (t : State) (f : Refusal) → gone h t ≡ Err f → h ≡ Refuses f
 refused_by (Hands r) t f e = absurd (let z : ◌≡◌ {A = ℕ} 0 1 = cc in omega arith)
 refused_by (Refuses g) t f e = let z : g ≡ f = cc in ap Refuses z
 refused_by End t f e = absurd (let z : ◌≡◌ {A = ℕ} 0 1 = cc in omega arith)
 
-end_by : (h : Next) (t : State) → gone h t ≡ AtEnd → h ≡ End
+end_by : (h : Next) (t : State) → gone h t ≡ (Ok None) → h ≡ End
 end_by (Hands r) t e = absurd (let z : ◌≡◌ {A = ℕ} 0 1 = cc in omega arith)
 end_by (Refuses g) t e = absurd (let z : ◌≡◌ {A = ℕ} 0 1 = cc in omega arith)
 end_by End t e = refl
@@ -261,21 +255,21 @@ module _ (s : List ℕ) (t : State) (n : ℕ) (c : Counts s t n) where
   counts_end h = told_ending End h (λ r k. let z : ◌≡◌ {A = ℕ} 0 1 = cc in omega arith) (λ e k i. i ∙ end_of e k)
 
   -- So a program that passes the records: each counts one,
-  pub passed_more : (u : State) → gone_of (next_record s t) ≡ On u → Counts s u (n + 1)
+  pub passed_more : (u : State) → gone_of (next_record s t) ≡ Ok (Some u) → Counts s u (n + 1)
   passed_more u h = on_by _ _ u h (λ r k e. subst (λ (x : State). Counts s x (n + 1)) e (counts_more r k))
 
-  pub passed_room : (u : State) → gone_of (next_record s t) ≡ On u → n + 1 < length s
+  pub passed_room : (u : State) → gone_of (next_record s t) ≡ Ok (Some u) → n + 1 < length s
   passed_room u h = on_by _ _ u h (λ r k e. counts_room r k)
 
   -- less of the file is left after it,
-  pub passed_less : (u : State) → gone_of (next_record s t) ≡ On u → length s - u.at < length s - t.at
+  pub passed_less : (u : State) → gone_of (next_record s t) ≡ Ok (Some u) → length s - u.at < length s - t.at
   passed_less u h =
       on_by _ _ u h
       (λ r k e. let m : t.at < u.at = subst (λ (x : State). t.at < x.at) e (moves s t r k) in omega (arith, m, was_inside s t r k))
 
   -- and what stops it is what checking tells.
-  pub passed_refused : (f : Refusal) → gone_of (next_record s t) ≡ Refused f → check_file s ≡ Not f
+  pub passed_refused : (f : Refusal) → gone_of (next_record s t) ≡ Err f → check_file s ≡ Not f
   passed_refused f h = counts_refused f (refused_by _ _ f h)
 
-  pub passed_end : gone_of (next_record s t) ≡ AtEnd → check_file s ≡ Records n
+  pub passed_end : gone_of (next_record s t) ≡ (Ok None) → check_file s ≡ Records n
   passed_end h = counts_end (end_by _ _ h)

@@ -25,11 +25,11 @@ use Rattle.order.specs.Order.{some, header, directions, drug, records}
 use Rattle.order.specs.Next.{follow}
 use Rattle.field.specs.Field.{Context}
 use Rattle.record.specs.declared.Record.{Record}
-use Rattle.record.specs.declared.Answer.TheVariants.{Took}
 use Rattle.record_line.specs.Line.{record_number, read_fields, read_parts}
 use Rattle.reader.specs.Open.{version_line, file_fault}
 use Rattle.reader.specs.File.{lines_of}
 use Rattle.reader.specs.Reader.{end_at, said_again}
+use Rattle.std.specs.Prelude.{Ok}
 
 -- ---- the lines of a file
 pub plain_least : (b : ℕ) → plain b ≡ true → 0x20 ≤ b
@@ -164,7 +164,7 @@ module _ (s : List ℕ) (at : ℕ) where
       (λ e. simp e)
 
   -- so a line that is taken begins inside it.
-  pub took_inside : (last : ℕ) (c : Context) (r : Record) → read_parts last c at (fields_at s at) ≡ Took r → at < length s
+  pub took_inside : (last : ℕ) (c : Context) (r : Record) → read_parts last c at (fields_at s at) ≡ Ok r → at < length s
   unfolding read_parts read_fields follow some records header directions drug
   took_inside last c r h =
       cases (ltb at (length s)) (λ e. ltb-true at (length s) e)

@@ -22,16 +22,15 @@ use Rattle.record_line.specs.Line.{refusal, read_fields, record_number, read_par
 use Rattle.record.specs.declared.Sofar.{Sofar}
 use Rattle.record.specs.declared.Record.{Record}
 use Rattle.record.specs.declared.Refusal.{Refusal}
-use Rattle.record.specs.declared.Answer.{Answer}
-use Rattle.record.specs.declared.Answer.TheVariants.{Took, Refused}
 use Rattle.reader.specs.Open.{file_fault}
 use Rattle.reader.specs.File.{File, whole, stopped, lines_of, on, closing, in_list, read_lines, read_file}
+use Rattle.std.specs.Prelude.{Err, Ok, Result}
 
 -- a refusal is no record
-no_record : {P : Type 0} (f : Refusal) (r : Record) → Refused f ≡ Took r → P
+no_record : {P : Type 0} (f : Refusal) (r : Record) → Err f ≡ Ok r → P
 no_record f r h = absurd (let z : ◌≡◌ {A = ℕ} 0 1 = cc in omega arith)
 
-same_record : (q r : Record) → Took q ≡ Took r → q ≡ r
+same_record : (q r : Record) → Ok q ≡ Ok r → q ≡ r
 same_record q r h = cc
 
 -- The record of a number has that number.
@@ -48,7 +47,7 @@ its_number n at fs =
     (λ f. cases (eqb n 201) (λ e. simp (a, b, d, f, e) (sym (eqb-true n 201 e))) (λ g. simp (a, b, d, f, g))))))
 
 -- a record that is taken may stand after the last one
-may_stand : (last : ℕ) (c : Context) (at : ℕ) (parts : List (List ℕ)) (r : Record) → read_parts last c at parts ≡ Took r →
+may_stand : (last : ℕ) (c : Context) (at : ℕ) (parts : List (List ℕ)) (r : Record) → read_parts last c at parts ≡ Ok r →
     follow last (number_of r) ≡ 0
 unfolding read_parts read_fields
 may_stand last c at parts r h =
@@ -96,9 +95,9 @@ more before r f k =
 -- one line, where those after it stand
 by_answer : (before : List ℕ) (last : ℕ) (c : Context) (at : ℕ) (parts : List (List ℕ)) (rest : Record → File) → Begins before →
     last ≡ last_of 0 before → ((r : Record) → Begins (before ++ (number_of r ∷ [])) → Stand (before ++ (number_of r ∷ [])) (rest r)) →
-    (a : Answer) → read_parts last c at parts ≡ a → Stand before (on a rest)
-by_answer before last c at parts rest b l k (Refused f) e = refused_here before f b
-by_answer before last c at parts rest b l k (Took r) e =
+    (a : Result Record Refusal) → read_parts last c at parts ≡ a → Stand before (on a rest)
+by_answer before last c at parts rest b l k (Err f) e = refused_here before f b
+by_answer before last c at parts rest b l k (Ok r) e =
     let z : follow (last_of 0 before) (number_of r) ≡ 0 = ap (λ (q : ℕ). follow q (number_of r)) (sym l) ∙ may_stand last c at parts r e in
     more before r (rest r) (k r ((stands before (number_of r) b).0 z))
 

@@ -1,6 +1,6 @@
 -- What a file is read as: its records, up to the end or the refusal.
 -- Assumes nothing.
-use Rattle.std.specs.Prelude.{ℕ, ◌+◌, cond, List, [], ◌∷◌, ◌++◌, eqb, length, drop}
+use Rattle.std.specs.Prelude.{ℕ, ◌+◌, cond, List, [], ◌∷◌, ◌++◌, eqb, length, drop, Err, Ok, Result}
 use Rattle.line.specs.Fields.{push, split}
 use Rattle.supplement.specs.declared.Supplement.{Supplement}
 use Rattle.order.specs.Next.{closes}
@@ -12,8 +12,6 @@ use Rattle.record_line.specs.Line.{refusal, read_parts}
 use Rattle.record.specs.declared.Sofar.{Sofar}
 use Rattle.record.specs.declared.Record.{Record}
 use Rattle.record.specs.declared.Refusal.{Refusal}
-use Rattle.record.specs.declared.Answer.{Answer}
-use Rattle.record.specs.declared.Answer.TheVariants.{Took, Refused}
 use Rattle.reader.specs.Open.{file_fault}
 use Rattle.reader.specs.Said.{Check, Records, Not}
 
@@ -45,9 +43,9 @@ abbrev pub before : Record → File → File
 before r f = record { records = r ∷ f.records; ending = f.ending }
 
 -- A record that is taken, and the file after it; or the refusal.
-abbrev pub on : Answer → (Record → File) → File
-on (Took r) rest = before r (rest r)
-on (Refused f) rest = ended (stopped f)
+abbrev pub on : Result Record Refusal → (Record → File) → File
+on (Ok r) rest = before r (rest r)
+on (Err f) rest = ended (stopped f)
 
 -- "32 at the end": the end, where a sheet may end after the last record.
 abbrev pub closing : ℕ → Sofar → File

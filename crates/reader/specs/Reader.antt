@@ -1,18 +1,17 @@
 -- The reader: what opening a file and each call after it answer.
 -- Assumes nothing.
-use Rattle.std.specs.Prelude.{ℕ, zero, suc, Bool, cond, ◌&&◌, List, [], ◌∷◌, ltb, eqb, length, get_or}
+use Rattle.std.specs.Prelude.{ℕ, zero, suc, Bool, cond, ◌&&◌, List, [], ◌∷◌, ltb, eqb, length, get_or, Err, Ok, Result}
 use Rattle.order.specs.Order.{among}
 use Rattle.order.specs.Next.{closes}
 use Rattle.field.specs.Field.{context}
 use Rattle.record.specs.Record.{start, after}
 use Rattle.record_line.specs.Line.{refusal, line_at}
 use Rattle.record.specs.declared.Record.{Record}
-use Rattle.record.specs.declared.Answer.{Answer}
-use Rattle.record.specs.declared.Answer.TheVariants.{Took, Refused}
 use Rattle.reader.specs.Open.{whole_file, file_fault}
 use Rattle.reader.specs.File.{Ending, whole, stopped}
 use Rattle.reader.specs.Said.{Next, Hands, Refuses, End, Turn}
 use Rattle.reader.specs.declared.State.{State}
+use Rattle.record.specs.declared.Refusal.{Refusal}
 
 -- A reader that is opened on a file, or keeps the refusal of the whole file.
 abbrev pub opened : ℕ → ℕ → State
@@ -40,9 +39,9 @@ abbrev pub closing : State → Turn
 closing t = cond (closes t.sofar.last) (record { next = End; state = t }) (refuses t 32)
 
 -- A record is handed out, and the reader goes on after it.
-abbrev pub on : State → Answer → ℕ → Turn
-on t (Took r) next = record { next = Hands r; state = record { number = 0; at = next; sofar = after t.sofar.before r } }
-on t (Refused f) next = record { next = Refuses f; state = t }
+abbrev pub on : State → Result Record Refusal → ℕ → Turn
+on t (Ok r) next = record { next = Hands r; state = record { number = 0; at = next; sofar = after t.sofar.before r } }
+on t (Err f) next = record { next = Refuses f; state = t }
 
 -- One call.
 unfoldable pub next_record : List ℕ → State → Turn

@@ -1,15 +1,11 @@
 -- What the reader answers, as document 01 has it: "For an answer that is an enum, a definition gives this paper's number and values for each
 -- case. The promises use that definition."
 -- Assumes nothing.
-use Rattle.std.specs.Prelude.{ℕ}
+use Rattle.std.specs.Prelude.{ℕ, Err, None, Ok, Option, Result, Some}
 use Rattle.record.specs.declared.Record.{Record}
 use Rattle.record.specs.declared.Refusal.{Refusal}
 use Rattle.reader.specs.declared.State.{State}
-use Rattle.reader.specs.declared.Handed.{Handed}
-use Rattle.reader.specs.declared.Handed.TheVariants.{Record as HandedRecord, Refused as HandedRefusal, End as HandedEnd}
 use Rattle.reader.specs.declared.Step.{Step}
-use Rattle.reader.specs.declared.Checked.{Checked}
-use Rattle.reader.specs.declared.Checked.TheVariants.{Records as CheckedRecords, Refused as CheckedRefusal}
 
 -- One call: "hands out one record at a time"; or a refusal, with its number and place; or the end.
 pub data Next : Type 0 where
@@ -28,16 +24,16 @@ pub data Check : Type 0 where
   Not : Refusal → Check
 
 -- What the code hands out,
-abbrev pub said_next : Handed → Next
-said_next (HandedRecord r) = Hands r
-said_next (HandedRefusal f) = Refuses f
-said_next HandedEnd = End
+abbrev pub said_next : Result (Option Record) Refusal → Next
+said_next (Ok (Some r)) = Hands r
+said_next (Err f) = Refuses f
+said_next (Ok None) = End
 
 -- what a call of it answers,
 abbrev pub said : Step → Turn
 said w = record { next = said_next w.next; state = w.state }
 
 -- and what checking answers.
-abbrev pub said_check : Checked → Check
-said_check (CheckedRecords n) = Records n
-said_check (CheckedRefusal f) = Not f
+abbrev pub said_check : Result ℕ Refusal → Check
+said_check (Ok n) = Records n
+said_check (Err f) = Not f

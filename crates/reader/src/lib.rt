@@ -10,7 +10,7 @@ ghost use Rattle.reader.specs.Reader.{opened as opened_of, open_file, refuses, e
 ghost use Rattle.reader.specs.Code.Gone.{moves_on, gone_of, gone_by};
 
 use cells::Fault;
-use record::{Answer, Passed, Record, Refusal, Sofar};
+use record::{Onward, Record, Refusal, Sofar};
 
 // Where the reader is in the file, and what the records before leave. A file that was refused on opening keeps its number here (20, 21 or 22;
 // 0 where it is open), and the offset in `at`. Any other number is that of a reader that was never opened.
@@ -21,18 +21,10 @@ pub struct State {
     pub sofar: Sofar,
 }
 
-// What a call hands out.
-#[derive(Clone, Copy)]
-pub enum Handed {
-    Record(Record),
-    Refused(Refusal),
-    End,
-}
-
 // An answer and the state to go on with.
 #[derive(Clone, Copy)]
 pub struct Step {
-    pub next: Handed,
+    pub next: Result<Option<Record>, Refusal>,
     pub state: State,
 }
 
@@ -96,7 +88,7 @@ fn refused(t: State, number: u16) -> Step
     ensures { said result ≡ refuses t number }
 {
     Step {
-        next: Handed::Refused(refusal_at(number, t.at)),
+        next: Err(refusal_at(number, t.at)),
         state: t,
     }
 }
@@ -127,7 +119,7 @@ fn close(t: State) -> Step
 {
     if order::closes(t.sofar.last) {
         return Step {
-            next: Handed::End,
+            next: Ok(None),
             state: t,
         };
     }
@@ -136,20 +128,20 @@ fn close(t: State) -> Step
 
 // A record and the state after it, or a refusal and the state as it was. `sofar` is what the line leaves, after a refusal what it came with: taken
 // from one place in both arms, it need not be kept in memory.
-fn moved(t: State, answer: Answer, next: usize, sofar: Sofar) -> Step
+fn moved(t: State, answer: Result<Record, Refusal>, next: usize, sofar: Sofar) -> Step
     ensures { said result ≡ moves_on t answer next sofar }
 {
     match answer {
-        Answer::Took(r) => Step {
-            next: Handed::Record(r),
+        Ok(r) => Step {
+            next: Ok(Some(r)),
             state: State {
                 number: 0,
                 at: next,
                 sofar: sofar,
             },
         },
-        Answer::Refused(f) => Step {
-            next: Handed::Refused(f),
+        Err(f) => Step {
+            next: Err(f),
             state: State {
                 number: t.number,
                 at: t.at,
@@ -177,20 +169,12 @@ pub fn next(s: &[u8], t: State) -> Step
 
 // ---- a file checked, with no record made
 
-// As a call, but for the record.
-#[derive(Clone, Copy)]
-enum Gone {
-    On(State),
-    Refused(Refusal),
-    End,
-}
-
 // The state after a line that is passed, or its refusal.
-fn went(p: Passed) -> Gone
+fn went(p: Result<Onward, Refusal>) -> Result<Option<State>, Refusal>
     ensures { result ≡ gone_by p }
 {
     match p {
-        Passed::On(x) => {
+        Ok(x) => {
             let sofar = x.sofar;
             Gone::On(State {
                 number: 0,
@@ -198,51 +182,44 @@ fn went(p: Passed) -> Gone
                 sofar: sofar,
             })
         }
-        Passed::Refused(f) => Gone::Refused(f),
+        Err(f) => Err(f),
     }
 }
 
 // Passes the next record.
-fn pass(s: &[u8], t: State) -> Gone
+fn pass(s: &[u8], t: State) -> Result<Option<State>, Refusal>
     ensures { result ≡ gone_of (next_record s.now t) }
 {
     let at = t.at;
     if t.number != 0 {
-        return Gone::Refused(refusal_at(said_again(t.number), at));
+        return Err(refusal_at(said_again(t.number), at));
     }
     if !ends(s, at) {
         return went(record_line::pass(t.sofar, s, at));
     }
     if order::closes(t.sofar.last) {
-        return Gone::End;
+        return Ok(None);
     }
-    Gone::Refused(refusal_at(32, at))
-}
-
-// How many records a file has with its version line, or its refusal.
-#[derive(Clone, Copy)]
-pub enum Checked {
-    Records(usize),
-    Refused(Refusal),
+    Err(refusal_at(32, at))
 }
 
 // Reads a whole file, record by record.
-pub fn check(s: &[u8]) -> Checked
+pub fn check(s: &[u8]) -> Result<usize, Refusal>
     ensures { said_check result ≡ check_file s.now }
 {
     let mut t = open(s);
     let mut n: usize = 1;
     loop {
         match pass(s, t) {
-            Gone::On(u) => {
+            Ok(Some(u)) => {
                 t = u;
                 n += 1;
             }
-            Gone::Refused(f) => {
-                return Checked::Refused(f);
+            Err(f) => {
+                return Err(f);
             }
-            Gone::End => {
-                return Checked::Records(n);
+            Ok(None) => {
+                return Ok(n);
             }
         }
     }

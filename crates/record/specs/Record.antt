@@ -1,6 +1,6 @@
 -- The records: a text by its place in the file, which part of a record is in which field, and what a record leaves for those after it.
 -- Assumes nothing.
-use Rattle.std.specs.Prelude.{ℕ, cond, List, [], ◌∷◌, ◌++◌, eqb}
+use Rattle.std.specs.Prelude.{ℕ, cond, List, [], ◌∷◌, ◌++◌, eqb, None, Option, Some}
 use Rattle.cells.specs.Test.{Answer, took, refused}
 use Rattle.text.specs.Lent.{text_or}
 use Rattle.date.specs.Date.{read_date, date}
@@ -17,10 +17,6 @@ use Rattle.counter.specs.declared.SupplementSerial.{SupplementSerial}
 use Rattle.field.specs.declared.Before.{Before}
 use Rattle.record.specs.declared.Sofar.{Sofar}
 use Rattle.record.specs.declared.Place.{Place}
-use Rattle.record.specs.declared.UsageCode.{UsageCode}
-use Rattle.record.specs.declared.UsageCode.TheVariants.{Is as usage_is, Empty as no_usage}
-use Rattle.record.specs.declared.SupplementCode.{SupplementCode}
-use Rattle.record.specs.declared.SupplementCode.TheVariants.{Is as supplement_is, Empty as no_supplement}
 use Rattle.record.specs.declared.Record.{Record}
 use Rattle.record.specs.declared.Record.TheVariants.{Issue, Rp, Usage, Supplement as Supply, Drug, Kept}
 
@@ -45,8 +41,8 @@ pub data Column : Type 0 where
   amount : ℕ → Column
   text : Place → Column
   day : Date → Column
-  usage : UsageCode → Column
-  supplement : SupplementCode → Column
+  usage : Option Instruction → Column
+  supplement : Option Supplement → Column
 
 -- The fields of a record, in the order of document 01's table. Those of a kept record are one text, with the commas between them.
 abbrev pub columns : Record → List Column
@@ -74,14 +70,14 @@ date_in (took t) = t
 date_in (refused n p) = date 0 0 0 0
 
 -- The usage code that a field is read as, where it holds one.
-abbrev pub usage_in : Answer Instruction → UsageCode
-usage_in (took i) = usage_is i
-usage_in (refused n p) = no_usage
+abbrev pub usage_in : Answer Instruction → Option Instruction
+usage_in (took i) = Some i
+usage_in (refused n p) = None
 
 -- The supplement that a field is read as, where it holds one.
-abbrev pub supplement_in : Answer Supplement → SupplementCode
-supplement_in (took x) = supplement_is x
-supplement_in (refused n p) = no_supplement
+abbrev pub supplement_in : Answer Supplement → Option Supplement
+supplement_in (took x) = Some x
+supplement_in (refused n p) = None
 
 -- Where the fields of a line are taken from, each by its number, counted from 1: the number that it writes, its amount, its place, its bytes.
 pub record Source : Type 0 where
@@ -156,9 +152,9 @@ abbrev pub with_schedule : Schedule → Before → Before
 with_schedule t b = record { month = b.month; rp = b.rp; drug = b.drug; supplement = b.supplement; schedule = t }
 
 -- What is kept of an RP's supplements with one more, or with none.
-abbrev pub with_code : Schedule → SupplementCode → Schedule
-with_code t (supplement_is x) = keep_of x
-with_code t no_supplement = t
+abbrev pub with_code : Schedule → Option Supplement → Schedule
+with_code t (Some x) = keep_of x
+with_code t None = t
 
 -- The month of record 51; no supplement yet.
 abbrev pub issued : ℕ → Before → Before
@@ -169,7 +165,7 @@ abbrev pub begun : RpNumber → Before → Before
 begun rp b = with_rp rp (with_drug (record { 0 = 0 }) (with_serial (record { 0 = 0 }) (with_schedule (kept []) b)))
 
 -- The supplement's serial, and what is kept of the RP's supplements.
-abbrev pub supplied : SupplementSerial → SupplementCode → Before → Before
+abbrev pub supplied : SupplementSerial → Option Supplement → Before → Before
 supplied serial code b = with_serial serial (with_schedule (with_code b.schedule code) b)
 
 -- What a record leaves for the fields of those after it,
@@ -186,9 +182,9 @@ abbrev pub after : Before → Record → Sofar
 after b r = record { last = number_of r; before = leaves b r }
 
 -- The supplements of an RP with the one of a record more, where it has one.
-abbrev pub with_supplement : List Supplement → SupplementCode → List Supplement
-with_supplement xs (supplement_is x) = xs ++ (x ∷ [])
-with_supplement xs no_supplement = xs
+abbrev pub with_supplement : List Supplement → Option Supplement → List Supplement
+with_supplement xs (Some x) = xs ++ (x ∷ [])
+with_supplement xs None = xs
 
 -- The supplements of the RP, in their order, with those of one record more.
 abbrev pub supplements : List Supplement → Record → List Supplement

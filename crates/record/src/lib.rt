@@ -19,18 +19,6 @@ pub struct Place {
     pub to: usize,
 }
 
-#[derive(Clone, Copy)]
-pub enum UsageCode {
-    Is(Instruction),
-    Empty,
-}
-
-#[derive(Clone, Copy)]
-pub enum SupplementCode {
-    Is(Supplement),
-    Empty,
-}
-
 // The date of issue.
 #[derive(Clone, Copy)]
 pub struct Record51 {
@@ -51,7 +39,7 @@ pub struct Record101 {
 pub struct Record111 {
     pub rp: RpNumber,
     pub kind: u16,
-    pub code: UsageCode,
+    pub code: Option<Instruction>,
     pub name: Place,
     pub times: u16,
 }
@@ -63,7 +51,7 @@ pub struct Record181 {
     pub serial: SupplementSerial,
     pub kind: u16,
     pub text: Place,
-    pub code: SupplementCode,
+    pub code: Option<Supplement>,
     pub site: Place,
 }
 
@@ -115,16 +103,10 @@ pub struct Sofar {
     pub before: Before,
 }
 
-#[derive(Clone, Copy)]
-pub enum Answer {
-    Took(Record),
-    Refused(Refusal),
-}
-
 // What a line is read as, where the next one begins, and what the records up to it leave; after a refusal 0, and what they left before it.
 #[derive(Clone, Copy)]
 pub struct Line {
-    pub answer: Answer,
+    pub answer: Result<Record, Refusal>,
     pub next: usize,
     pub sofar: Sofar,
 }
@@ -134,12 +116,6 @@ pub struct Line {
 pub struct Onward {
     pub sofar: Sofar,
     pub next: usize,
-}
-
-#[derive(Clone, Copy)]
-pub enum Passed {
-    On(Onward),
-    Refused(Refusal),
 }
 
 // A text of a record: that part of the file; nothing where the file has no such place.
@@ -176,17 +152,17 @@ pub fn after_rp(b: Before, rp: RpNumber) -> Before
 }
 
 // What is kept of the RP's supplements with one more, or with none.
-fn scheduled(t: Schedule, code: SupplementCode) -> Schedule
+fn scheduled(t: Schedule, code: Option<Supplement>) -> Schedule
     ensures { result ≡ with_code t code }
 {
     match code {
-        SupplementCode::Is(x) => schedule::with(x),
-        SupplementCode::Empty => t,
+        Some(x) => schedule::with(x),
+        None => t,
     }
 }
 
 // A supplement leaves its serial and its code,
-pub fn after_supplement(b: Before, serial: SupplementSerial, code: SupplementCode) -> Before
+pub fn after_supplement(b: Before, serial: SupplementSerial, code: Option<Supplement>) -> Before
     ensures { result ≡ supplied serial code b }
 {
     let before = b.schedule;

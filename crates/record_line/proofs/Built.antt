@@ -30,11 +30,10 @@ use Rattle.record.specs.declared.Place.{Place}
 use Rattle.record.specs.declared.Sofar.{Sofar}
 use Rattle.record.specs.declared.Record.{Record}
 use Rattle.record.specs.declared.Record.TheVariants.{Issue, Rp, Usage, Supplement as Supply, Drug, Kept}
-use Rattle.record.specs.declared.Answer.TheVariants.{Took}
 use Rattle.record.specs.declared.Line.{Line}
-use Rattle.record.specs.declared.Passed.TheVariants.{On}
 use Rattle.record_line.proofs.Stands.{stands}
 use Rattle.record_line.proofs.Cells.{number_cell, amount_cell, end_cell, place_cells, ends_most}
+use Rattle.std.specs.Prelude.{Ok}
 
 -- ---- a row that is right
 
@@ -258,11 +257,11 @@ module _ (b : Before) (n : ℕ) (s : List ℕ) (from : ℕ) (w : Row) (ns ms es 
   noted_record = λ j. built_of n s (p j) (q j) (v j) (record { from = from; to = w.after - 1 })
 
   pub took_line_lem : (r : Record) → r ≡ built_of n s ns ms es (record { from = from; to = w.after - 1 }) → (t : Sofar) → t ≡ after b r →
-      ◌≡◌ {A = Line} (record { answer = Took r; next = w.after + 1; sofar = t }) (took_line b n s from w)
+      ◌≡◌ {A = Line} (record { answer = Ok r; next = w.after + 1; sofar = t }) (took_line b n s from w)
   took_line_lem r e t f =
       let x = e ∙ noted_record in
       let y = f ∙ ap (after b) x in
-      λ j. record { answer = Took (x j); next = w.after + 1; sofar = y j }
+      λ j. record { answer = Ok (x j); next = w.after + 1; sofar = y j }
 
   module _ (t : Before) (f : t ≡ leaves b (built_of n s ns ms es (record { from = from; to = w.after - 1 }))) where
     left_after : ◌≡◌ {A = Sofar} (record { last = n; before = t }) (after b (row_record n s from w))
@@ -270,8 +269,8 @@ module _ (b : Before) (n : ℕ) (s : List ℕ) (from : ℕ) (w : Row) (ns ms es 
         let m = sym (built_number n s ns ms es (record { from = from; to = w.after - 1 })) in
         (λ j. record { last = m j; before = f j }) ∙ ap (after b) noted_record
 
-    pub took_on : On (record { sofar = record { last = n; before = t }; next = w.after + 1 }) ≡ passed_of (took_line b n s from w)
-    took_on = let y = left_after in λ j. On (record { sofar = y j; next = w.after + 1 })
+    pub took_on : Ok (record { sofar = record { last = n; before = t }; next = w.after + 1 }) ≡ passed_of (took_line b n s from w)
+    took_on = let y = left_after in λ j. Ok (record { sofar = y j; next = w.after + 1 })
 
 module _ (last : ℕ) (c : Context) (s : List ℕ) (at n from : ℕ) (w : Row) (e : w ≡ read_row c n from (fields_at s from)) where
   abbrev either : Bool → Line

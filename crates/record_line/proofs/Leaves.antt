@@ -26,7 +26,7 @@ use Rattle.record.specs.Record.{with_code, leaves, with_supplement, supplements,
 use Rattle.record_line.specs.Fields.{record_of}
 use Rattle.record_line.specs.Line.{from_row, read_fields, record_number, read_parts}
 use Rattle.record.specs.declared.Record.{Record}
-use Rattle.record.specs.declared.Answer.TheVariants.{Took}
+use Rattle.std.specs.Prelude.{Ok}
 
 -- what is kept of an RP's supplements xs, and that they are an allowed list
 pub record Keeps (b : Before) (xs : List Supplement) : Type 0 where
@@ -34,13 +34,13 @@ pub record Keeps (b : Before) (xs : List Supplement) : Type 0 where
   pub keeps : b.schedule ≡ kept xs
 
 -- only a row with no fault is taken
-from_row_lem : (at n from : ℕ) (fs : List (List ℕ)) (w : Row) (r : Record) → from_row at n from fs w ≡ Took r →
+from_row_lem : (at n from : ℕ) (fs : List (List ℕ)) (w : Row) (r : Record) → from_row at n from fs w ≡ Ok r →
     (w.fault.number ≡ 0) × (record_of n from fs ≡ r)
 from_row_lem at n from fs w r h =
     split (eqb w.fault.number 0) (λ e. let q = simp e at h in (eqb-true _ _ e, cc))
     (λ e. absurd (let q = simp e at h in let z : ◌≡◌ {A = ℕ} 0 1 = cc in omega arith))
 
-from_fields : (last : ℕ) (c : Context) (at n from : ℕ) (fs : List (List ℕ)) (r : Record) → read_fields last c at n from fs ≡ Took r →
+from_fields : (last : ℕ) (c : Context) (at n from : ℕ) (fs : List (List ℕ)) (r : Record) → read_fields last c at n from fs ≡ Ok r →
     ((read_row c n from fs).fault.number ≡ 0) × (record_of n from fs ≡ r)
 unfolding read_fields
 from_fields last c at n from fs r h =
@@ -71,7 +71,7 @@ module _ (b : Before) (xs : List Supplement) (k : Keeps b xs) (joins : Supplemen
       (λ j. simp (e, f, g, i, j) (record { listed = k.listed; keeps = k.keeps }))))))
 
   -- A record that is taken leaves what is kept of the RP's supplements with it, and these are an allowed list.
-  pub keeps_on : (last at : ℕ) (parts : List (List ℕ)) (r : Record) → read_parts last (judged_by b joins) at parts ≡ Took r →
+  pub keeps_on : (last at : ℕ) (parts : List (List ℕ)) (r : Record) → read_parts last (judged_by b joins) at parts ≡ Ok r →
       Keeps (leaves b r) (supplements xs r)
   unfolding read_parts
   keeps_on last at parts r h =

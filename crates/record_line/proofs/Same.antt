@@ -14,15 +14,16 @@ use Rattle.field.specs.declared.Before.{Before}
 use Rattle.row.specs.declared.Row.{Row}
 use Rattle.row.proofs.Same.{same_row}
 use Rattle.record_line.specs.Line.{refusal, from_row, read_fields, record_number, read_parts, line_after, line_at}
-use Rattle.record.specs.declared.Answer.{Answer}
-use Rattle.record.specs.declared.Answer.TheVariants.{Refused}
+use Rattle.std.specs.Prelude.{Err, Result}
+use Rattle.record.specs.declared.Record.{Record}
+use Rattle.record.specs.declared.Refusal.{Refusal}
 
 module _ (joins joins' : Supplement → Bool) (same : (x : Supplement) → joins x ≡ joins' x) (last : ℕ) (b : Before) where
   pub same_fields : (at n from : ℕ) (fs : List (List ℕ)) →
       read_fields last (judged_by b joins) at n from fs ≡ read_fields last (judged_by b joins') at n from fs
   unfolding read_fields
   same_fields at n from fs =
-      ap (λ (w : Row). cond (eqb (follow last n) 0) (from_row at n from fs w) (Refused (refusal (follow last n) at)))
+      ap (λ (w : Row). cond (eqb (follow last n) 0) (from_row at n from fs w) (Err (refusal (follow last n) at)))
       (same_row joins joins' same b n from fs)
 
   pub same_parts : (at : ℕ) (parts : List (List ℕ)) → read_parts last (judged_by b joins) at parts ≡ read_parts last (judged_by b joins') at parts
@@ -32,4 +33,4 @@ module _ (joins joins' : Supplement → Bool) (same : (x : Supplement) → joins
   pub same_line : (s : List ℕ) (at : ℕ) → line_at last (judged_by b joins) s at ≡ line_at last (judged_by b joins') s at
   unfolding line_at
   same_line s at =
-      ap (λ (a : Answer). line_after (record { last = last; before = b }) a (at + length (join (fields_at s at)) + 2)) (same_parts at (fields_at s at))
+      ap (λ (a : Result Record Refusal). line_after (record { last = last; before = b }) a (at + length (join (fields_at s at)) + 2)) (same_parts at (fields_at s at))

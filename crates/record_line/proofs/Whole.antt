@@ -21,9 +21,9 @@ use Rattle.row.specs.declared.Row.{Row}
 use Rattle.line.proofs.Walk.{outside, first, more, last, more_fit, size, some}
 use Rattle.record_line.specs.Line.{refusal, from_row, read_fields, number_in, record_number, read_parts, line_after, line_at}
 use Rattle.record_line.specs.Code.Built.{sofar, refused_line, fields_line, Heads}
-use Rattle.record.specs.declared.Answer.TheVariants.{Took, Refused}
 use Rattle.record_line.specs.declared.Head.{Head}
 use Rattle.record_line.proofs.Built.{right_row, built, right_line, wrong_line}
+use Rattle.std.specs.Prelude.{Err, Ok}
 
 -- the fields after the first, with its comma
 join_more : (f : List ℕ) (fs : List (List ℕ)) → 1 ≤ length fs → length (join (f ∷ fs)) ≡ length f + 1 + length (join fs)
@@ -34,7 +34,7 @@ join_more f (g ∷ fs) h = omega (arith, length-append f (0x2c ∷ join (g ∷ f
 module _ (last-number : ℕ) (c : Context) (s : List ℕ) (at : ℕ) where
   -- a line with a number that may not stand here
   wrong_number : (parts : List (List ℕ)) (n v : ℕ) → record_number parts ≡ n → v ≡ follow last-number n → (v ≡ 0 → ⊥) →
-      read_parts last-number c at parts ≡ Refused (refusal v at)
+      read_parts last-number c at parts ≡ Err (refusal v at)
   unfolding read_parts read_fields
   wrong_number parts n v e f z = rw (e, ← f, ne_eqb v 0 z)
 
@@ -51,7 +51,7 @@ module _ (last-number : ℕ) (c : Context) (s : List ℕ) (at : ℕ) where
   nowhere : length s < at → refused_line (sofar last-number c) (refusal 23 at) ≡ line_at last-number c s at
   unfolding line_at
   nowhere h =
-      let p : read_parts last-number c at (fields_at s at) ≡ Refused (refusal 23 at) =
+      let p : read_parts last-number c at (fields_at s at) ≡ Err (refusal 23 at) =
       ap (read_parts last-number c at) (outside s at h) ∙ wrong_number [] 0 23 no_number unknown (λ z. omega arith) in
       rw p
 
@@ -90,7 +90,7 @@ module _ (last-number : ℕ) (c : Context) (s : List ℕ) (at : ℕ) where
           let u : (read_row c n (e + 1) fs).after + 1 ≡ at + length (join (fields_at s at)) + 2 =
           omega (arith, ap (λ (x : Row). x.after) r, ap (λ (x : List (List ℕ)). length (join x)) p, join_more (slice at e s) fs (some s (e + 1) i), size s at h e q) in
           sym (right_line last-number c s at n (e + 1) w refl (eqb-true _ _ y))
-          ∙ ap₂ (line_after (sofar last-number c)) (ap Took (built c s (e + 1) i n (eqb-true _ _ y))) u
+          ∙ ap₂ (line_after (sofar last-number c)) (ap Ok (built c s (e + 1) i n (eqb-true _ _ y))) u
           ∙ rw (a, y))
           (λ y. sym (wrong_line last-number c s at n (e + 1) w refl (eqb-false _ _ y)) ∙ rw (a, y))
 

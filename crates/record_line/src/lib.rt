@@ -14,14 +14,16 @@ ghost use Rattle.record_line.specs.Fields.{kept_field};
 ghost use Rattle.record_line.specs.Line.{refusal as refusal_of, row_refusal, number_in, line_at, passed_of};
 ghost use Rattle.record_line.specs.Code.Built.{Room, place_in, first_place, built_of, refused_line, fields_line, Heads, Leaves};
 
+use supplement::Supplement;
+use usage::Instruction;
 use cells::Fault;
 use counter::{DrugSerial, RpNumber, SupplementSerial};
-use date::{Date, Made};
+use date::Date;
 use field::Before;
 use number::Number;
 use record::{
-    Answer, Kept, Line, Onward, Passed, Place, Record, Record51, Record101, Record111, Record181,
-    Record201, Refusal, Sofar, SupplementCode, UsageCode,
+    Kept, Line, Onward, Place, Record, Record51, Record101, Record111, Record181, Record201, Refusal,
+    Sofar,
 };
 use row::Row;
 
@@ -60,8 +62,8 @@ fn date_at(s: &[u8], p: Place) -> Date
     ensures { result ≡ date_in (read_date (text_at s.now p)) }
 {
     match date::read(record::text(s, p)) {
-        Made::Day(d) => d,
-        Made::None(_) => Date {
+        Ok(d) => d,
+        Err(_) => Date {
             era: 0,
             year: 0,
             month: 0,
@@ -70,21 +72,21 @@ fn date_at(s: &[u8], p: Place) -> Date
     }
 }
 
-fn usage_at(s: &[u8], p: Place) -> UsageCode
+fn usage_at(s: &[u8], p: Place) -> Option<Instruction>
     ensures { result ≡ usage_in (read_usage (text_at s.now p)) }
 {
     match usage::read(record::text(s, p)) {
-        usage::Reading::Taken(i) => UsageCode::Is(i),
-        usage::Reading::Refused(_) => UsageCode::Empty,
+        Ok(i) => Some(i),
+        Err(_) => None,
     }
 }
 
-fn supplement_at(s: &[u8], p: Place) -> SupplementCode
+fn supplement_at(s: &[u8], p: Place) -> Option<Supplement>
     ensures { result ≡ supplement_in (read_supplement (text_at s.now p)) }
 {
     match supplement::read(record::text(s, p)) {
-        supplement::Reading::Taken(x) => SupplementCode::Is(x),
-        supplement::Reading::Refused(_) => SupplementCode::Empty,
+        Ok(x) => Some(x),
+        Err(_) => None,
     }
 }
 
@@ -255,7 +257,7 @@ fn refused_line(c: Sofar, f: Refusal) -> Line
     ensures { result ≡ refused_line c f }
 {
     Line {
-        answer: Answer::Refused(f),
+        answer: Err(f),
         next: 0,
         sofar: c,
     }
@@ -266,8 +268,8 @@ fn record_number(f: &[u8]) -> u16
     ensures { result ≡ number_in (read_number 1 999 f.now) }
 {
     match number::read(f, 1, 999) {
-        Number::Is(n) => (n % 65536) as u16,
-        Number::Not(_) => 0,
+        Ok(n) => (n % 65536) as u16,
+        Err(_) => 0,
     }
 }
 
@@ -326,7 +328,7 @@ fn read_fields(c: Sofar, s: &[u8], at: usize, n: u16, from: usize) -> Line
     };
     let r = record_of(n, s, &numbers, &amounts, &ends, fields);
     Line {
-        answer: Answer::Took(r),
+        answer: Ok(r),
         next: w.after + 1,
         sofar: record::after(c.before, r),
     }
@@ -343,7 +345,7 @@ pub fn read(c: Sofar, s: &[u8], at: usize) -> Line
     read_fields(c, s, at, h.number, h.from)
 }
 
-fn pass_fields(c: Sofar, s: &[u8], at: usize, n: u16, from: usize) -> Passed
+fn pass_fields(c: Sofar, s: &[u8], at: usize, n: u16, from: usize) -> Result<Onward, Refusal>
     requires { from ≤ length s.now }
     ensures { result ≡ passed_of (fields_line c.last (context c.before) s.now at n from) }
 {
@@ -352,9 +354,9 @@ fn pass_fields(c: Sofar, s: &[u8], at: usize, n: u16, from: usize) -> Passed
     let mut ends = [0; row::WIDE];
     let w = row::read(c.before, s, n, from, &mut numbers, &mut amounts, &mut ends);
     if w.fault.number != 0 {
-        return Passed::Refused(refused_fields(at, w));
+        return Err(refused_fields(at, w));
     }
-    Passed::On(Onward {
+    Ok(Onward {
         sofar: Sofar {
             last: n,
             before: left(c.before, n, s, from, &numbers, &ends),
@@ -364,12 +366,12 @@ fn pass_fields(c: Sofar, s: &[u8], at: usize, n: u16, from: usize) -> Passed
 }
 
 // Passes the line at a place of the file: what reading it and its record leave.
-pub fn pass(c: Sofar, s: &[u8], at: usize) -> Passed
+pub fn pass(c: Sofar, s: &[u8], at: usize) -> Result<Onward, Refusal>
     ensures { result ≡ passed_of (line_at c.last (context c.before) s.now at) }
 {
     let h = read_head(c.last, s, at);
     if h.refusal != 0 {
-        return Passed::Refused(refused_at(h.refusal, at));
+        return Err(refused_at(h.refusal, at));
     }
     pass_fields(c, s, at, h.number, h.from)
 }

@@ -5,7 +5,6 @@ ghost use Rattle.std.specs.Prelude.{◌≡◌};
 ghost use Rattle.reader.specs.Said.{said_check};
 ghost use Rattle.reader.specs.File.{check_file};
 
-use reader::Checked;
 use record::Refusal;
 
 fn words(rt: &impl Print, text: &[u8]) {
@@ -38,15 +37,15 @@ fn refusal(rt: &impl Print, f: Refusal) {
     at_record(rt, f)
 }
 
-fn answer(rt: &impl Print, r: Checked) {
+fn answer(rt: &impl Print, r: Result<usize, Refusal>) {
     match r {
-        Checked::Records(n) => named(rt, b"ok ", n),
-        Checked::Refused(f) => refusal(rt, f),
+        Ok(n) => named(rt, b"ok ", n),
+        Err(f) => refusal(rt, f),
     }
 }
 
 // Checks a sheet, prints `ok N`, or `refused` with the number and its place, and hands back what it told.
-pub fn sheet(rt: &impl Print, s: &[u8]) -> Checked
+pub fn sheet(rt: &impl Print, s: &[u8]) -> Result<usize, Refusal>
     ensures { said_check result ≡ check_file s.now }
 {
     let r = reader::check(s);

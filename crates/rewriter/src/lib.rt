@@ -5,7 +5,6 @@ ghost use Rattle.std.specs.Prelude.{◌≡◌, ◌++◌, ◌≤◌, length, drop
 ghost use Rattle.reader.specs.File.{whole, read_file};
 ghost use Rattle.rewriter.specs.Rewritten.{rewritten};
 
-use reader::Handed;
 
 // Puts every record of a whole file into a draft, with the file lent beside it, and closes it.
 fn put_all(s: &[u8], out: &mut [u8]) -> usize
@@ -18,14 +17,14 @@ fn put_all(s: &[u8], out: &mut [u8]) -> usize
         let step = reader::next(s, from);
         let handed = step.next;
         match handed {
-            Handed::Record(r) => {
+            Ok(Some(r)) => {
                 told = draft::add(out, told, r, s);
                 from = step.state;
             }
-            Handed::Refused(_) => {
+            Err(_) => {
                 return 0;
             }
-            Handed::End => {
+            Ok(None) => {
                 let last = draft::finish(out, told);
                 return last.state.at;
             }
@@ -42,8 +41,8 @@ pub fn rewrite(s: &[u8], out: &mut [u8]) -> usize
         return 0;
     }
     match sheet::walk(s) {
-        Handed::Record(_) => 0,
-        Handed::Refused(_) => 0,
-        Handed::End => put_all(s, out),
+        Ok(Some(_)) => 0,
+        Err(_) => 0,
+        Ok(None) => put_all(s, out),
     }
 }

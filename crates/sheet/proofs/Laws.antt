@@ -9,18 +9,19 @@ use Rattle.reader.specs.File.{File, Ending, whole, stopped, read_file}
 use Rattle.reader.specs.Reader.{open_file, next_record, ending_of}
 use Rattle.reader.specs.Said.{Next, Hands, Refuses, End, Turn, said_next, said}
 use Rattle.reader.specs.declared.State.{State}
-use Rattle.reader.specs.declared.Handed.{Handed}
-use Rattle.reader.specs.declared.Handed.TheVariants.{Record as HandedRecord, Refused as HandedRefusal, End as HandedEnd}
 use Rattle.reader.specs.declared.Step.{Step}
 use Rattle.reader.proofs.Laws.{one_step}
 use Rattle.reader.proofs.Along.{Tells, by_rest, from_opening}
 use Rattle.sheet.specs.Walk.{hands, Ends, here, later}
+use Rattle.std.specs.Prelude.{Err, None, Ok, Option, Result, Some}
+use Rattle.record.specs.declared.Record.{Record}
+use Rattle.record.specs.declared.Refusal.{Refusal}
 
 -- ---- the code's own step, by what is said of it
-abbrev pub handed_of : Next → Handed
-handed_of (Hands r) = HandedRecord r
-handed_of (Refuses f) = HandedRefusal f
-handed_of End = HandedEnd
+abbrev pub handed_of : Next → Result (Option Record) Refusal
+handed_of (Hands r) = Ok (Some r)
+handed_of (Refuses f) = Err f
+handed_of End = (Ok None)
 
 abbrev pub step_of : Turn → Step
 step_of x = record { next = handed_of x.next; state = x.state }

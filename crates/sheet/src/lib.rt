@@ -8,8 +8,8 @@ ghost use Rattle.reader.specs.File.{read_file};
 ghost use Rattle.reader.specs.Reader.{open_file, next_record, ending_of};
 ghost use Rattle.sheet.specs.Walk.{hands as hands_of, Ends};
 
-use reader::{Handed, State, Step};
-use record::Place;
+use reader::{State, Step};
+use record::{Place, Record, Refusal};
 
 // The lent file, and where the reader is in it.
 #[derive(Clone, Copy)]
@@ -56,14 +56,14 @@ fn hands(s: Step) -> bool
 {
     let answer = s.next;
     match answer {
-        Handed::Record(_) => true,
-        Handed::Refused(_) => false,
-        Handed::End => false,
+        Ok(Some(_)) => true,
+        Err(_) => false,
+        Ok(None) => false,
     }
 }
 
 // The sheet read to its end: the answer that hands out no record.
-fn last<'a>(r: Sheet<'a>) -> Handed
+fn last<'a>(r: Sheet<'a>) -> Result<Option<Record>, Refusal>
     ensures { Ends r.entry.file.now (said_next result) r.entry.state }
 {
     let mut t = r;
@@ -79,7 +79,7 @@ fn last<'a>(r: Sheet<'a>) -> Handed
 
 // How a file ends: the end, or its refusal. A sheet is opened and read to its end. It, `begin` and `step` speak of no sheet, so whoever calls them
 // carries no struct with what was lent.
-pub fn walk(file: &[u8]) -> Handed
+pub fn walk(file: &[u8]) -> Result<Option<Record>, Refusal>
     ensures { said_next result ≡ ending_of (read_file file.now).ending }
 {
     last(open(file))

@@ -8,7 +8,6 @@ ghost use Rattle.told.specs.States.{reader_of};
 ghost use Rattle.sheet_calls.specs.Calls.{Checks, Opens, Steps};
 
 use plain_record::RECORD;
-use reader::{Checked, Handed};
 use told::{REFUSAL, STATE};
 
 // Checks a sheet.
@@ -16,12 +15,12 @@ pub fn check(file: &[u8], records: &mut u64, refusal: &mut [u64; REFUSAL]) -> u1
     ensures { Checks (check_file file.now) records.old result refusal.new records.new }
 {
     match reader::check(file) {
-        Checked::Records(n) => {
+        Ok(n) => {
             *records = n as u64;
             *refusal = [0; REFUSAL];
             0
         }
-        Checked::Refused(f) => told::put_refusal(f, refusal),
+        Err(f) => told::put_refusal(f, refusal),
     }
 }
 
@@ -46,14 +45,14 @@ pub fn next(
     let step = reader::next(file, told::reader_state(state));
     let handed = step.next;
     match handed {
-        Handed::Record(r) => {
+        Ok(Some(r)) => {
             told::put_reader(step.state, state);
             plain_record::put_record(r, numbers);
             *refusal = [0; REFUSAL];
             0
         }
-        Handed::Refused(f) => told::put_refusal(f, refusal),
-        Handed::End => {
+        Err(f) => told::put_refusal(f, refusal),
+        Ok(None) => {
             *refusal = [0; REFUSAL];
             65535
         }

@@ -1,6 +1,7 @@
 // The codes of a sheet that is taken: each is written again from what it was read as, and compared with the sheet's own, character by character.
-use reader::Handed;
-use record::{Record, SupplementCode, UsageCode};
+use supplement::Supplement;
+use usage::Instruction;
+use record::Record;
 
 // How many codes were written again, and how many of them came out otherwise.
 #[derive(Clone, Copy)]
@@ -44,14 +45,14 @@ pub fn of_sheet(rt: &impl Print, s: &[u8], so_far: Again) -> Again {
         let step = reader::next(s, t);
         let handed = step.next;
         match handed {
-            Handed::Record(r) => {
+            Ok(Some(r)) => {
                 a = of_record(rt, s, at, r, a);
                 t = step.state;
             }
-            Handed::Refused(_) => {
+            Err(_) => {
                 return a;
             }
-            Handed::End => {
+            Ok(None) => {
                 return a;
             }
         }
@@ -76,29 +77,29 @@ fn of_record(rt: &impl Print, s: &[u8], at: usize, r: Record, a: Again) -> Again
     }
 }
 
-fn of_usage(rt: &impl Print, read: &[u8], code: UsageCode, a: Again) -> Again {
+fn of_usage(rt: &impl Print, read: &[u8], code: Option<Instruction>, a: Again) -> Again {
     match code {
-        UsageCode::Is(i) => {
+        Some(i) => {
             let w = usage_writer::write(i);
             let written = w.code;
             let mut b = a;
             b.usage = more(b.usage);
             compared(rt, b, cells::same_16(written, sixteen(read)))
         }
-        UsageCode::Empty => a,
+        None => a,
     }
 }
 
-fn of_supplement(rt: &impl Print, read: &[u8], code: SupplementCode, a: Again) -> Again {
+fn of_supplement(rt: &impl Print, read: &[u8], code: Option<Supplement>, a: Again) -> Again {
     match code {
-        SupplementCode::Is(x) => {
+        Some(x) => {
             let w = supplement_writer::write(x);
             let written = w.code;
             let mut b = a;
             b.supplementary = more(b.supplementary);
             compared(rt, b, cells::same_8(written, eight(read)))
         }
-        SupplementCode::Empty => a,
+        None => a,
     }
 }
 

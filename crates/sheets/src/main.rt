@@ -9,7 +9,6 @@ mod codes;
 ghost use Rattle.std.specs.Prelude.{◌≡◌, true, ◌≤◌, ◌<◌, length};
 
 use codes::Again;
-use reader::Checked;
 use std::fs::File;
 use std::io::Read;
 use std::rt::Files;
@@ -150,12 +149,12 @@ fn tell_read(rt: &impl Print, s: &[u8], asked: Asked, a: Again) -> Again {
 
 fn check_sheet(rt: &impl Print, s: &[u8], a: Again) -> Again {
     match report::sheet(rt, s) {
-        Checked::Records(_) => {
+        Ok(_) => {
             let mut again = [0u8; 16384];
             write_into(rt, s, &mut again);
             codes::of_sheet(rt, s, a)
         }
-        Checked::Refused(_) => a,
+        Err(_) => a,
     }
 }
 

@@ -18,19 +18,18 @@ use Rattle.cells.proofs.Alike.{each}
 use Rattle.supplement.specs.Supplement.{tests, says, read_supplement, said}
 use Rattle.supplement.specs.Amount.{Allowed, Agrees, nothing, columns}
 use Rattle.supplement.specs.declared.Supplement.{Supplement}
-use Rattle.supplement.specs.declared.Reading.{Reading}
-use Rattle.supplement.specs.declared.Reading.TheVariants.{Taken, Refused}
 use Rattle.supplement.proofs.Shape.{stop, over, allowed, fine, stopped}
+use Rattle.std.specs.Prelude.{Err, Ok, Result}
 
 -- Two answers of the reader that say the same are equal.
-pub one_reading : (a b : Reading) → said a ≡ said b → a ≡ b
-one_reading (Taken x) (Taken y) h = let e : x ≡ y = cc in ap Taken e
-one_reading (Taken x) (Refused f) h = absurd (let z : ◌≡◌ {A = ℕ} 0 1 = cc in omega arith)
-one_reading (Refused f) (Taken y) h = absurd (let z : ◌≡◌ {A = ℕ} 0 1 = cc in omega arith)
-one_reading (Refused f) (Refused g) h =
+pub one_reading : (a b : Result Supplement Fault) → said a ≡ said b → a ≡ b
+one_reading (Ok x) (Ok y) h = let e : x ≡ y = cc in ap Ok e
+one_reading (Ok x) (Err f) h = absurd (let z : ◌≡◌ {A = ℕ} 0 1 = cc in omega arith)
+one_reading (Err f) (Ok y) h = absurd (let z : ◌≡◌ {A = ℕ} 0 1 = cc in omega arith)
+one_reading (Err f) (Err g) h =
     let n : f.number ≡ g.number = cc in
     let p : f.place ≡ g.place = cc in
-    ap Refused (λ i. record { number = n i; place = p i })
+    ap Err (λ i. record { number = n i; place = p i })
 
 -- The six columns of a V code have no fault exactly where they are an allowed amount.
 pub amount_taken : (s : List ℕ) → length s ≡ 8 → ((first (cells 6 2 (columns nothing 6 2 s) s)).number ≡ 0) ↔ Allowed (drop 2 s)

@@ -1,6 +1,6 @@
 -- Document 01, "Supplementary code". Places are counted from 1, and characters stand in quotes, as there.
 -- Assumes nothing.
-use Rattle.std.specs.Prelude.{ℕ, zero, suc, ◌+◌, Bool, false, cond, not, List, [], ◌∷◌, ◌++◌, eqb, length, get_or}
+use Rattle.std.specs.Prelude.{ℕ, zero, suc, ◌+◌, Bool, false, cond, not, List, [], ◌∷◌, ◌++◌, eqb, length, get_or, Err, Ok, Result}
 use Prim.Native.String.{String}
 use Rattle.cells.specs.Text.{among, digit}
 use Rattle.cells.specs.Test.{Test, test, first, Answer, took, refused, judge}
@@ -9,8 +9,7 @@ use Rattle.supplement.specs.Amount.{columns, nothing, figures_of, places_of}
 use Rattle.supplement.specs.declared.Week.{Week}
 use Rattle.supplement.specs.declared.Days.{Days}
 use Rattle.supplement.specs.declared.Supplement.{Supplement}
-use Rattle.supplement.specs.declared.Reading.{Reading}
-use Rattle.supplement.specs.declared.Reading.TheVariants.{Taken, Refused}
+use Rattle.cells.specs.declared.Fault.{Fault}
 
 -- "A value 1 to 31 is written 1 to 9, A to V; up to 35, on to Z."
 abbrev pub to31 : String
@@ -136,6 +135,6 @@ unfoldable pub read_supplement : List ℕ → Answer Supplement
 read_supplement s = cond (eqb (length s) 8) (judge (first (tests s)) (says s)) (refused 1 0)
 
 -- Document 01's number and values of each answer.
-abbrev pub said : Reading → Answer Supplement
-said (Taken x) = took x
-said (Refused f) = refused f.number f.place
+abbrev pub said : Result Supplement Fault → Answer Supplement
+said (Ok x) = took x
+said (Err f) = refused f.number f.place

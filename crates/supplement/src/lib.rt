@@ -56,12 +56,6 @@ pub struct Supplement {
     pub places: u8,
 }
 
-#[derive(Clone, Copy)]
-pub enum Reading {
-    Taken(Supplement),
-    Refused(Fault),
-}
-
 // What has been seen of an amount's columns: none, a 0 alone, other whole digits, the point, decimals, an N.
 #[derive(Clone, Copy)]
 enum Seen {
@@ -488,25 +482,25 @@ fn says(s: &[u8]) -> Supplement
     dose(s)
 }
 
-fn read_eight(s: &[u8]) -> Reading
+fn read_eight(s: &[u8]) -> Result<Supplement, Fault>
     requires { length s.now ≡ 8 }
     ensures { said result ≡ judge (first (tests s.now)) (says_of s.now) }
 {
     let f = fault_of(s);
     if f.number == 0 {
-        return Reading::Taken(says(s));
+        return Ok(says(s));
     }
-    Reading::Refused(f)
+    Err(f)
 }
 
 // Reads a supplementary code.
-pub fn read(s: &[u8]) -> Reading
+pub fn read(s: &[u8]) -> Result<Supplement, Fault>
     ensures { said result ≡ read_supplement s.now }
 {
     if s.len() == 8 {
         return read_eight(s);
     }
-    Reading::Refused(Fault {
+    Err(Fault {
         number: 1,
         place: 0,
     })

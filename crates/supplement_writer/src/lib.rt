@@ -8,7 +8,8 @@ ghost use Rattle.supplement_writer.specs.Writes.{WritesSupplement};
 ghost use Rattle.supplement_writer.specs.Code.Write.{answer as answer_of};
 ghost use Rattle.supplement_writer.specs.Print.{width as width_of, whole as whole_of, figure_at, column as column_of, raw_interval, raw_week, raw_date, raw_count, raw_amount, raw as raw_of, of_week, of_days, of_head, same as same_of, agrees as agrees_of};
 
-use supplement::{Days, Reading, Supplement, Week};
+use cells::Fault;
+use supplement::{Days, Supplement, Week};
 
 // The number is 0, and the code the eight characters; or the number is 35, and the code eight 0 bytes.
 #[derive(Clone, Copy)]
@@ -216,12 +217,12 @@ fn same(a: Supplement, b: Supplement) -> bool
     n & (w & d)
 }
 
-fn agrees(r: Reading, x: Supplement) -> bool
+fn agrees(r: Result<Supplement, Fault>, x: Supplement) -> bool
     ensures { result ≡ agrees_of (said r) x }
 {
     match r {
-        Reading::Taken(y) => same(y, x),
-        Reading::Refused(_) => false,
+        Ok(y) => same(y, x),
+        Err(_) => false,
     }
 }
 

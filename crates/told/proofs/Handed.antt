@@ -19,8 +19,6 @@ use Rattle.record.specs.Record.{record_from}
 use Rattle.record_line.specs.Fields.{record_of}
 use Rattle.record_line.specs.Line.{record_number, read_parts, line_after, line_at}
 use Rattle.record.specs.declared.Record.{Record}
-use Rattle.record.specs.declared.Answer.{Answer}
-use Rattle.record.specs.declared.Answer.TheVariants.{Took, Refused}
 use Rattle.reader.specs.Reader.{end_at, said_again, refuses, on, next_record}
 use Rattle.reader.specs.Said.{Hands, End, Turn}
 use Rattle.reader.specs.declared.State.{State}
@@ -34,6 +32,8 @@ use Rattle.plain_record.specs.Fits as Fits
 use Rattle.plain_record.proofs.Laws.{record_back}
 use Rattle.plain.proofs.Read.{either}
 use Rattle.told.proofs.Fields.{number_in_lem, number_most, date_fits, usage_in_lem, supplement_in_lem}
+use Rattle.std.specs.Prelude.{Err, Ok, Result}
+use Rattle.record.specs.declared.Refusal.{Refusal}
 
 -- ---- by the record's number
 module _ (last : ℕ) (c : Context) where
@@ -117,7 +117,7 @@ module _ (last : ℕ) (c : Context) where
 
   -- ---- a line that is taken
   -- its number is at most 999, and nothing is wrong with its fields
-  parts_fit : (at : ℕ) (parts : List (List ℕ)) (r : Record) → read_parts last c at parts ≡ Took r → FitsRecord r
+  parts_fit : (at : ℕ) (parts : List (List ℕ)) (r : Record) → read_parts last c at parts ≡ Ok r → FitsRecord r
   unfolding read_parts
   parts_fit at parts r h =
       let n : ℕ = record_number parts in
@@ -131,9 +131,9 @@ abbrev Hold : Turn → Type 0
 Hold w = (r : Record) → w.next ≡ Hands r → FitsRecord r
 
 -- the answer that a line gives
-line_holds : (t : State) (a : Answer) (n : ℕ) → ((r : Record) → a ≡ Took r → FitsRecord r) → Hold (on t (line_after t.sofar a n).answer (line_after t.sofar a n).next)
-line_holds t (Took r) n f q h = let e : r ≡ q = cc in subst FitsRecord e (f r refl)
-line_holds t (Refused g) n f q h = absurd (let z : ◌≡◌ {A = ℕ} 0 1 = cc in omega arith)
+line_holds : (t : State) (a : Result Record Refusal) (n : ℕ) → ((r : Record) → a ≡ Ok r → FitsRecord r) → Hold (on t (line_after t.sofar a n).answer (line_after t.sofar a n).next)
+line_holds t (Ok r) n f q h = let e : r ≡ q = cc in subst FitsRecord e (f r refl)
+line_holds t (Err g) n f q h = absurd (let z : ◌≡◌ {A = ℕ} 0 1 = cc in omega arith)
 
 -- A record that the reader hands out fits, whatever the file and the state:
 pub record_fits : (s : List ℕ) (t : State) (r : Record) → (next_record s t).next ≡ Hands r → FitsRecord r

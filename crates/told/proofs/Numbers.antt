@@ -25,8 +25,6 @@ use Rattle.row.specs.Row.{field_by_field, read_row}
 use Rattle.row.specs.declared.Row.{Row}
 use Rattle.record.specs.declared.Record.{Record}
 use Rattle.record.specs.declared.Refusal.{Refusal}
-use Rattle.record.specs.declared.Answer.{Answer}
-use Rattle.record.specs.declared.Answer.TheVariants.{Took, Refused}
 use Rattle.record_line.specs.Line.{record_number, read_fields, read_parts, line_after, line_at}
 use Rattle.reader.specs.Reader.{open_file, end_at, said_again, on, next_record}
 use Rattle.reader.specs.declared.State.{State}
@@ -38,6 +36,7 @@ use Rattle.reader.proofs.Laws.{still_open}
 use Rattle.plain.proofs.Read.{either, chosen}
 use Rattle.told.specs.States.{open_of, given, reader_of}
 use Rattle.told.specs.Answers.{refused_number, handed_number, FileNumber, Returned, handed, ended, refuses}
+use Rattle.std.specs.Prelude.{Err, Ok, Result}
 use Rattle.told.specs.Answers as file
 
 -- 0, which says that nothing is refused, or a number for a file
@@ -55,14 +54,14 @@ OfField f = Listed f.fault.number
 abbrev OfRow : Row → Type 0
 OfRow w = Listed w.fault.number
 
-data OfAnswer : Answer → Type 0 where
-  taken : {r : Record} → OfAnswer (Took r)
-  told : {f : Refusal} → FileNumber (refused_number f) → OfAnswer (Refused f)
+data OfAnswer : Result Record Refusal → Type 0 where
+  taken : {r : Record} → OfAnswer (Ok r)
+  told : {f : Refusal} → FileNumber (refused_number f) → OfAnswer (Err f)
 
-some : {f : Refusal} → Listed (refused_number f) → eqb (refused_number f) 0 ≡ false → OfAnswer (Refused f)
+some : {f : Refusal} → Listed (refused_number f) → eqb (refused_number f) 0 ≡ false → OfAnswer (Err f)
 some {f} h e = by (refused_number f) h refl
   where
-    by : (n : ℕ) → Listed n → refused_number f ≡ n → OfAnswer (Refused f)
+    by : (n : ℕ) → Listed n → refused_number f ≡ n → OfAnswer (Err f)
     by n none z = absurd (eqb-false (refused_number f) 0 e z)
     by n (one l) z = told {f = f} (subst FileNumber (sym z) l)
 
@@ -139,9 +138,9 @@ module _ (s n : List ℕ) where
   abbrev OfTurn : Turn → Type 0
   OfTurn w = Returned s n (handed_number w.next)
 
-  line_number : (t : State) (a : Answer) (m : ℕ) → OfAnswer a → OfTurn (on t (line_after t.sofar a m).answer (line_after t.sofar a m).next)
-  line_number t (Took r) m taken = handed
-  line_number t (Refused f) m (told l) = refuses l
+  line_number : (t : State) (a : Result Record Refusal) (m : ℕ) → OfAnswer a → OfTurn (on t (line_after t.sofar a m).answer (line_after t.sofar a m).next)
+  line_number t (Ok r) m taken = handed
+  line_number t (Err f) m (told l) = refuses l
 
   -- a refusal that is told
   tells : (t : State) (k : ℕ) → FileNumber k → OfTurn (reader.refuses t k)

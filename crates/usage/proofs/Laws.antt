@@ -11,18 +11,19 @@ use lib.ListN.{length}
 use Rattle.cells.specs.Limits.{hours_most}
 use Rattle.cells.specs.Text.{bytes}
 use Rattle.usage.specs.Usage.{hour_counts, Rows, table8, said}
-use Rattle.usage.specs.declared.Reading.{Reading}
-use Rattle.usage.specs.declared.Reading.TheVariants.{Taken, Refused}
+use Rattle.std.specs.Prelude.{Err, Ok, Result}
+use Rattle.usage.specs.declared.Instruction.{Instruction}
+use Rattle.cells.specs.declared.Fault.{Fault}
 
 -- two answers of the reader that say the same are equal
-pub one_reading : (a b : Reading) → said a ≡ said b → a ≡ b
-one_reading (Taken i) (Taken j) e = cc
-one_reading (Taken i) (Refused g) e = cc
-one_reading (Refused f) (Taken j) e = cc
-one_reading (Refused f) (Refused g) e =
+pub one_reading : (a b : Result Instruction Fault) → said a ≡ said b → a ≡ b
+one_reading (Ok i) (Ok j) e = cc
+one_reading (Ok i) (Err g) e = cc
+one_reading (Err f) (Ok j) e = cc
+one_reading (Err f) (Err g) e =
     let n : f.number ≡ g.number = cc in
     let p : f.place ≡ g.place = cc in
-    λ k. Refused (record { number = n k; place = p k })
+    λ k. Err (record { number = n k; place = p k })
 
 -- the rows of table 8, each as one number: for each line each of its 5th characters with each of its 6th with each of its conditions
 abbrev pub over : (ℕ → List ℕ → List ℕ) → String → List ℕ → List ℕ

@@ -1,6 +1,6 @@
 -- Document 01, "Usage code, character by character". Places are counted from 1, and characters stand in quotes, as there.
 -- Assumes nothing.
-use Rattle.std.specs.Prelude.{ℕ, zero, suc, ◌+◌, ◌-◌, Bool, true, false, cond, ◌&&◌, List, [], ◌∷◌, ◌++◌, eqb, length}
+use Rattle.std.specs.Prelude.{ℕ, zero, suc, ◌+◌, ◌-◌, Bool, true, false, cond, ◌&&◌, List, [], ◌∷◌, ◌++◌, eqb, length, Err, Ok, Result}
 use Prim.Native.String.{String}
 use Rattle.cells.specs.Text.{among, index, at, digit}
 use Rattle.cells.specs.Test.{Test, test, first, Answer, took, refused, judge}
@@ -9,8 +9,7 @@ use Rattle.usage.specs.declared.Occasions.{Occasions}
 use Rattle.usage.specs.declared.Hours.{Hours}
 use Rattle.usage.specs.declared.Event.{Event}
 use Rattle.usage.specs.declared.Instruction.{Instruction}
-use Rattle.usage.specs.declared.Reading.{Reading}
-use Rattle.usage.specs.declared.Reading.TheVariants.{Taken, Refused}
+use Rattle.cells.specs.declared.Fault.{Fault}
 
 -- "A start hour A to X (A is 0 h, X is 23 h)": what a character says as an hour, 24 where it is none.
 abbrev pub hours : String
@@ -259,6 +258,6 @@ unfoldable pub read_usage : List ℕ → Answer Instruction
 read_usage s = cond (eqb (length s) 16) (judge (first (frame s ++ timing s)) (says s)) (refused 1 0)
 
 -- Document 01's number and values of each answer.
-abbrev pub said : Reading → Answer Instruction
-said (Taken i) = took i
-said (Refused f) = refused f.number f.place
+abbrev pub said : Result Instruction Fault → Answer Instruction
+said (Ok i) = took i
+said (Err f) = refused f.number f.place

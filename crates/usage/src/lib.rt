@@ -65,12 +65,6 @@ pub struct Instruction {
     pub about: u8,
 }
 
-#[derive(Clone, Copy)]
-pub enum Reading {
-    Taken(Instruction),
-    Refused(Fault),
-}
-
 // Sets of characters as `cells::has` takes them: bit v for the value v, 0 to 9, A as 10 to Z as 35.
 const CLASSES: u64 = 0b110;
 
@@ -633,32 +627,32 @@ fn said(s: &[u8]) -> Instruction
 }
 
 // An instruction whose code has no fault is taken.
-fn conclude(f: Fault, i: Instruction) -> Reading
+fn conclude(f: Fault, i: Instruction) -> Result<Instruction, Fault>
     ensures { said_of result ≡ judge f i }
 {
     if f.number == 0 {
-        return Reading::Taken(i);
+        return Ok(i);
     }
-    Reading::Refused(f)
+    Err(f)
 }
 
-fn read_sixteen(s: &[u8]) -> Reading
+fn read_sixteen(s: &[u8]) -> Result<Instruction, Fault>
     requires { length s.now ≡ 16 }
     ensures { said_of result ≡ read_usage s.now }
 {
     let f = frame_fault(s);
     if f.number != 0 {
-        return Reading::Refused(f);
+        return Err(f);
     }
     conclude(timing_fault(s), said(s))
 }
 
 // Reads a usage code: what it says, or the number and the place of the first fault.
-pub fn read(s: &[u8]) -> Reading
+pub fn read(s: &[u8]) -> Result<Instruction, Fault>
     ensures { said_of result ≡ read_usage s.now }
 {
     if s.len() != 16 {
-        return Reading::Refused(Fault {
+        return Err(Fault {
             number: 1,
             place: 0,
         });

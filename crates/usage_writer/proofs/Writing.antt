@@ -18,9 +18,9 @@ use Rattle.usage_writer.specs.Writes.{WritesUsage}
 use Rattle.usage_writer.specs.Code.Write.{agrees, answer}
 use Rattle.usage_writer.specs.Print.{tail, raw, of_head, of_occasions, of_hours, of_event, same}
 use Rattle.usage.specs.declared.Instruction.{Instruction}
-use Rattle.usage.specs.declared.Reading.{Reading}
-use Rattle.usage.specs.declared.Reading.TheVariants.{Taken, Refused}
 use Rattle.usage_writer.proofs.Laws.{back}
+use Rattle.std.specs.Prelude.{Err, Ok, Result}
+use Rattle.cells.specs.declared.Fault.{Fault}
 
 -- the characters after the 4th are twelve
 pub twelve : (i : Instruction) → length (tail i) ≡ 12
@@ -82,13 +82,13 @@ same_eq a b h =
 same_self : (a : Instruction) → same a a ≡ true
 same_self a = simp (eqs_self (of_head a), eqs_self (of_occasions a.occasions), eqs_self (of_hours a.hours), eqs_self (of_event a.event))
 
-agrees_taken : (u : Reading) (i : Instruction) → agrees u i ≡ true → u ≡ Taken i
-agrees_taken (Taken j) i h = ap Taken (sym (same_eq i j h))
-agrees_taken (Refused f) i h = absurd (let z : ◌≡◌ {A = ℕ} 0 1 = cc in omega arith)
+agrees_taken : (u : Result Instruction Fault) (i : Instruction) → agrees u i ≡ true → u ≡ Ok i
+agrees_taken (Ok j) i h = ap Ok (sym (same_eq i j h))
+agrees_taken (Err f) i h = absurd (let z : ◌≡◌ {A = ℕ} 0 1 = cc in omega arith)
 
-pub written : (i : Instruction) (u : Reading) → said u ≡ read_usage (raw i) → WritesUsage i (answer (agrees u i) (raw i))
+pub written : (i : Instruction) (u : Result Instruction Fault) → said u ≡ read_usage (raw i) → WritesUsage i (answer (agrees u i) (raw i))
 written i u r =
     writes Instruction read_usage _ raw back i (agrees u i) (λ a. sym r ∙ ap said (agrees_taken u i a))
-    (λ a h. let t = one_reading u (Taken i) (r ∙ h) in
+    (λ a h. let t = one_reading u (Ok i) (r ∙ h) in
     let k = sym a ∙ ap (λ v. agrees v i) t ∙ same_self i in
     let y : ◌≡◌ {A = ℕ} 0 1 = cc in omega arith)

@@ -7,7 +7,8 @@ ghost use Rattle.usage_writer.specs.Writes.{WritesUsage};
 ghost use Rattle.usage_writer.specs.Code.Write.{agrees as agrees_of, answer as answer_of};
 ghost use Rattle.usage_writer.specs.Print.{hour_letter, mark as mark_of, day_tail, clock_tail, event_tail, lone_tail, tail as tail_of, raw as raw_of, of_head, of_occasions, of_hours, of_event, same as same_of};
 
-use usage::{Event, Hours, Instruction, Occasions, Reading};
+use cells::Fault;
+use usage::{Event, Hours, Instruction, Occasions};
 
 // The number is 0, and the code the sixteen characters; or the number is 35, and the code sixteen 0 bytes.
 #[derive(Clone, Copy)]
@@ -198,12 +199,12 @@ fn same(a: Instruction, b: Instruction) -> bool
 }
 
 // Is what was read this instruction?
-fn agrees(u: Reading, i: Instruction) -> bool
+fn agrees(u: Result<Instruction, Fault>, i: Instruction) -> bool
     ensures { result ≡ agrees_of u i }
 {
     match u {
-        Reading::Taken(j) => same(i, j),
-        Reading::Refused(_) => false,
+        Ok(j) => same(i, j),
+        Err(_) => false,
     }
 }
 

@@ -15,7 +15,6 @@ use Rattle.order.specs.Next.{closes}
 use Rattle.field.specs.Field.{context}
 use Rattle.record.specs.Record.{start, after}
 use Rattle.record_line.specs.Line.{read_parts}
-use Rattle.record.specs.declared.Answer.{Answer}
 use Rattle.record.specs.declared.Record.{Record}
 use Rattle.held.specs.Held.{lent_held, parts, print_record}
 use Rattle.laid.specs.Laid.{room_for, Put, put_parts, parts_most}
@@ -27,6 +26,8 @@ use Rattle.writer.specs.Writer.{refuses, put_at, room, ended, put_line, on_answe
 use Rattle.writer.specs.declared.State.{State}
 use Rattle.writer.proofs.Line.{on_number, parts_line, line_is, room_is, put_is}
 use Rattle.writer.proofs.WriteBack.{done}
+use Rattle.std.specs.Prelude.{Result}
+use Rattle.record.specs.declared.Refusal.{Refusal}
 
 -- ---- opening
 pub open_short : (out : List ℕ) → min (length out) file_most < 9 → refuses out unopened 33 0 ≡ open_buffer out
@@ -82,7 +83,7 @@ module _ (out : List ℕ) (t : State) (r : Record) (lent : List ℕ) where
     by_wrong : put_record out t r lent ≡ cond (eqb e.wrong 0) (put_line out t line (after t.sofar.before r)) (refuses out t 34 e.wrong)
     unfolding put_record
     by_wrong =
-        let a : Answer = read_parts t.sofar.last (context t.sofar.before) t.at (parts (lent_held lent r)) in
+        let a : Result Record Refusal = read_parts t.sofar.last (context t.sofar.before) t.at (parts (lent_held lent r)) in
         ap (λ (b : Bool). cond b (refuses out t 34 24) (on_answer out t a line (after t.sofar.before r))) o
         ∙ on_number out t a line (after t.sofar.before r) (refused_some t.sofar.last (context t.sofar.before) t.at (parts (lent_held lent r)))
         ∙ ap (λ (n : ℕ). cond (eqb n 0) (put_line out t line (after t.sofar.before r)) (refuses out t 34 n)) same_number

@@ -14,8 +14,6 @@ use Rattle.line.specs.Fields.{join}
 use Rattle.record.specs.declared.Sofar.{Sofar}
 use Rattle.record.specs.declared.Record.{Record}
 use Rattle.record.specs.declared.Refusal.{Refusal}
-use Rattle.record.specs.declared.Answer.{Answer}
-use Rattle.record.specs.declared.Answer.TheVariants.{Took, Refused}
 use Rattle.held.specs.Held.{lent_held, print_record}
 use Rattle.entry.specs.Entry.{part_list, Parts, parts_of, number_in}
 use Rattle.laid.specs.Laid.{Laid, part_at, separator_of, line_from, line_of, room_for}
@@ -23,12 +21,13 @@ use Rattle.entry.specs.Code.Judge.{laid_in, parts_from}
 use Rattle.entry.proofs.Laws.{line_of_lem, few}
 use Rattle.writer.specs.Writer.{refuses, put_at, room, ended, put_line, on_answer}
 use Rattle.writer.specs.declared.State.{State}
+use Rattle.std.specs.Prelude.{Err, Ok, Result}
 
 -- A record is put where the reader's number for it is 0, and else refused with that number.
-pub on_number : (out : List ℕ) (t : State) (a : Answer) (l : List ℕ) (c : Sofar) → ((f : Refusal) → a ≡ Refused f → f.fault.number ≡ 0 → ⊥) →
+pub on_number : (out : List ℕ) (t : State) (a : Result Record Refusal) (l : List ℕ) (c : Sofar) → ((f : Refusal) → a ≡ Err f → f.fault.number ≡ 0 → ⊥) →
     on_answer out t a l c ≡ cond (eqb (number_in a) 0) (put_line out t l c) (refuses out t 34 (number_in a))
-on_number out t (Took r) l c h = refl
-on_number out t (Refused f) l c h = let e : eqb f.fault.number 0 ≡ false = ne_eqb f.fault.number 0 (h f refl) in simp e
+on_number out t (Ok r) l c h = refl
+on_number out t (Err f) l c h = let e : eqb f.fault.number 0 ≡ false = ne_eqb f.fault.number 0 (h f refl) in simp e
 
 -- ---- the line
 -- parts put one by one, with their commas and the end of the line

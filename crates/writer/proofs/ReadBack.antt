@@ -21,8 +21,6 @@ use Rattle.record.specs.declared.Sofar.{Sofar}
 use Rattle.record.specs.Record.{after, supplements}
 use Rattle.record_line.specs.Line.{read_parts}
 use Rattle.record.specs.declared.Record.{Record}
-use Rattle.record.specs.declared.Answer.{Answer}
-use Rattle.record.specs.declared.Answer.TheVariants.{Took, Refused}
 use Rattle.record_line.proofs.Same.{same_parts}
 use Rattle.record_line.proofs.Leaves.{Keeps, keeps_on}
 use Rattle.reader.specs.File.{File, whole, before, on, in_list, read_lines}
@@ -32,6 +30,8 @@ use Rattle.held.proofs.Laws.{plain_parts, split_parts, same_after, same_suppleme
 use Rattle.writer.specs.Writer.{Left, state, put_at, room, ended, put_line, put_record, close_buffer}
 use Rattle.writer.specs.Files.{Item, held_in, next, put_all, written_in}
 use Rattle.writer.proofs.WriteBack.{done, joins_alike}
+use Rattle.std.specs.Prelude.{Err, Ok, Result}
+use Rattle.record.specs.declared.Refusal.{Refusal}
 
 -- The lines of what is put.
 abbrev pub lines_for : List Item → List (List ℕ)
@@ -66,7 +66,7 @@ line_there out at closed c d l h =
 -- A record that is put is taken by the reader, and has room.
 record PutRecord (out : List ℕ) (at : ℕ) (c : Sofar) (r : Record) (lent : List ℕ) : Type 0 where
   read : Record
-  takes : read_parts c.last (context c.before) at (parts (lent_held lent r)) ≡ Took read
+  takes : read_parts c.last (context c.before) at (parts (lent_held lent r)) ≡ Ok read
   there : PutLine out at (print_record (lent_held lent r)) (after c.before r) (put_record out (state at false c) r lent)
 
 record_there : (out : List ℕ) (at : ℕ) (c : Sofar) (r : Record) (lent : List ℕ) → (put_record out (state at false c) r lent).put.number ≡ 0 →
@@ -77,9 +77,9 @@ record_there out at c r lent h = by (read_parts c.last (context c.before) at (pa
     l : List ℕ
     l = print_record (lent_held lent r)
 
-    by : (a : Answer) → read_parts c.last (context c.before) at (parts (lent_held lent r)) ≡ a → PutRecord out at c r lent
-    by (Took q) e = record { read = q; takes = e; there = rw e (line_there out at false c (after c.before r) l (rw e at h)) }
-    by (Refused f) e = absurd (let z : ◌≡◌ {A = ℕ} 34 0 = rw e at h in omega arith)
+    by : (a : Result Record Refusal) → read_parts c.last (context c.before) at (parts (lent_held lent r)) ≡ a → PutRecord out at c r lent
+    by (Ok q) e = record { read = q; takes = e; there = rw e (line_there out at false c (after c.before r) l (rw e at h)) }
+    by (Err f) e = absurd (let z : ◌≡◌ {A = ℕ} 34 0 = rw e at h in omega arith)
 
 -- A file that is closed has its end.
 record Closed (out : List ℕ) (at : ℕ) (c : Sofar) : Type 0 where
@@ -127,7 +127,7 @@ module _ (x : Item) (xs : List Item) (at : ℕ) (c : Sofar) (codes : List Supple
   l = print_record (held_in x)
 
   -- the reader takes the line
-  line_taken : read_parts c.last (in_list c.before codes) at (split l) ≡ Took p.read
+  line_taken : read_parts c.last (in_list c.before codes) at (split l) ≡ Ok p.read
   line_taken =
       ap (read_parts c.last (in_list c.before codes) at) (split_parts c.last (context c.before) at x.lent x.holds p.read p.takes)
       ∙ sym (same_parts _ _ (joins_alike c.before codes k) c.last c.before at (parts (held_in x))) ∙ p.takes
@@ -164,7 +164,7 @@ module _ (x : Item) (xs : List Item) (at : ℕ) (c : Sofar) (codes : List Supple
       let d : drop further s ≡ file (lines_for xs) = ap (λ (n : ℕ). drop n s) (sym z) ∙ after_line s at l (lines_for xs) e in
       let g = w.reads s d in
       let f : read_lines at c codes (lines_for (x ∷ xs)) ≡ before p.read (read_lines further (after c.before x.holds) (supplements codes x.holds) (lines_for xs)) =
-      ap (λ (a : Answer). on a (λ q. read_lines (at + length l + 2) (after c.before q) (supplements codes q) (lines_for xs))) line_taken
+      ap (λ (a : Result Record Refusal). on a (λ q. read_lines (at + length l + 2) (after c.before q) (supplements codes q) (lines_for xs))) line_taken
       ∙ (λ i. before p.read (read_lines (z i) (left i) (left_codes i) (lines_for xs))) in
       let a : held s p.read ≡ held_in x = again c.last (context c.before) at x.lent x.holds p.read p.takes s (0x0d ∷ 0x0a ∷ file (lines_for xs)) e in (
         ap (λ (v : File). v.ending) f ∙ g.0,

@@ -24,8 +24,6 @@ use Rattle.record.specs.declared.Sofar.{Sofar}
 use Rattle.record.specs.Record.{after, supplements}
 use Rattle.record_line.specs.Line.{read_parts}
 use Rattle.record.specs.declared.Record.{Record}
-use Rattle.record.specs.declared.Answer.{Answer}
-use Rattle.record.specs.declared.Answer.TheVariants.{Took, Refused}
 use Rattle.record_line.proofs.Same.{same_parts}
 use Rattle.record_line.proofs.Leaves.{Keeps, keeps_on}
 use Rattle.reader.specs.File.{File, whole, on, in_list, read_lines}
@@ -35,6 +33,8 @@ use Rattle.held.proofs.Laws.{lent_back}
 use Rattle.held.proofs.File.{never_whole}
 use Rattle.writer.specs.Writer.{Left, state, put_at, room, ended, put_line, on_answer, put_record, close_buffer}
 use Rattle.writer.specs.Files.{item, next, put_all}
+use Rattle.std.specs.Prelude.{Err, Ok, Result}
+use Rattle.record.specs.declared.Refusal.{Refusal}
 
 -- A writer at a place, and the buffer, after a call that was not refused.
 abbrev pub done : ℕ → Bool → Sofar → List ℕ → Left
@@ -89,16 +89,16 @@ module _ (s out : List ℕ) (fits : length s ≤ length out) (most : length s �
 
   -- a record that was read, put where it stood
   record_put : (c : Sofar) (xs : List Supplement) → Keeps c.before xs → (at : ℕ) (l : List ℕ) (ls : List (List ℕ)) (r : Record) → drop at s ≡ file (l ∷ ls) →
-      read_parts c.last (in_list c.before xs) at (split l) ≡ Took r →
+      read_parts c.last (in_list c.before xs) at (split l) ≡ Ok r →
       put_record (upto at) (state at false c) r s ≡ done (at + (length l + 2)) false (after c.before r) (upto (at + (length l + 2)))
   unfolding put_record print_record file
   record_put c xs k at l ls r e h =
       let m : at + length l ≤ length s =
       omega (arith, inside s at l (0x0a ∷ file ls) e, length-drop at s, ap length e, length-append l (0x0d ∷ 0x0a ∷ file ls)) in
       let p : parts (lent_held s r) ≡ split l = lent_back c.last (in_list c.before xs) s at (split l) (0x0d ∷ 0x0a ∷ file ls) r h (rw join_split e) (rw join_split m) in
-      let a : read_parts c.last (context c.before) at (parts (lent_held s r)) ≡ Took r =
+      let a : read_parts c.last (context c.before) at (parts (lent_held s r)) ≡ Ok r =
       ap (read_parts c.last (context c.before) at) p ∙ same_parts _ _ (joins_alike c.before xs k) c.last c.before at (split l) ∙ h in
-      ap₂ (λ (w : Answer) (y : List ℕ). on_answer (upto at) (state at false c) w y (after c.before r)) a (ap join p ∙ join_split l)
+      ap₂ (λ (w : Result Record Refusal) (y : List ℕ). on_answer (upto at) (state at false c) w y (after c.before r)) a (ap join p ∙ join_split l)
       ∙ line_put at false c (after c.before r) l ls e
 
   -- closing, where the file has its end
@@ -112,15 +112,15 @@ module _ (s out : List ℕ) (fits : length s ≤ length out) (most : length s �
 
   -- one line, and those after it
   line_written : (c : Sofar) (xs : List Supplement) → Keeps c.before xs → (at : ℕ) (l : List ℕ) (ls : List (List ℕ)) (rest : Record → File) → drop at s ≡ file (l ∷ ls) →
-      ((r : Record) → read_parts c.last (in_list c.before xs) at (split l) ≡ Took r → (rest r).ending ≡ whole →
+      ((r : Record) → read_parts c.last (in_list c.before xs) at (split l) ≡ Ok r → (rest r).ending ≡ whole →
       put_all (map (item s) (rest r).records) (done (at + (length l + 2)) false (after c.before r) (upto (at + (length l + 2)))) ≡
       done (length s) true (after_all (after c.before r) (rest r).records) (upto (length s))) →
-      (a : Answer) → read_parts c.last (in_list c.before xs) at (split l) ≡ a → (on a rest).ending ≡ whole →
+      (a : Result Record Refusal) → read_parts c.last (in_list c.before xs) at (split l) ≡ a → (on a rest).ending ≡ whole →
       put_all (map (item s) (on a rest).records) (done at false c (upto at)) ≡ done (length s) true (after_all c (on a rest).records) (upto (length s))
   unfolding put_all
-  line_written c xs k at l ls rest e more (Took r) h w =
+  line_written c xs k at l ls rest e more (Ok r) h w =
       ap (λ (v : Left). next v (λ u. put_all (map (item s) (rest r).records) u)) (record_put c xs k at l ls r e h) ∙ more r h w
-  line_written c xs k at l ls rest e more (Refused f) h w = never_whole w
+  line_written c xs k at l ls rest e more (Err f) h w = never_whole w
 
   -- All lines from an offset on, then the end.
   pub lines_written : (ls : List (List ℕ)) (at : ℕ) (c : Sofar) (xs : List Supplement) → Keeps c.before xs → (read_lines at c xs ls).ending ≡ whole → drop at s ≡ file ls →

@@ -1,6 +1,6 @@
 -- Writing a file record by record into a lent buffer: what each call answers, and every byte after it.
 -- Assumes nothing.
-use Rattle.std.specs.Prelude.{ℕ, ◌+◌, min, Bool, true, false, cond, List, [], ◌∷◌, ◌++◌, leb, length, take, drop}
+use Rattle.std.specs.Prelude.{ℕ, ◌+◌, min, Bool, true, false, cond, List, [], ◌∷◌, ◌++◌, leb, length, take, drop, Err, Ok, Result}
 use Rattle.cells.specs.Limits.{file_most}
 use Rattle.cells.specs.Text.{bytes}
 use Rattle.order.specs.Next.{closes}
@@ -9,11 +9,10 @@ use Rattle.record.specs.Record.{start, after}
 use Rattle.record_line.specs.Line.{read_parts}
 use Rattle.record.specs.declared.Sofar.{Sofar}
 use Rattle.record.specs.declared.Record.{Record}
-use Rattle.record.specs.declared.Answer.{Answer}
-use Rattle.record.specs.declared.Answer.TheVariants.{Took, Refused}
 use Rattle.held.specs.Held.{lent_held, parts, print_record}
 use Rattle.writer.specs.declared.State.{State}
 use Rattle.writer.specs.declared.Told.{Told}
+use Rattle.record.specs.declared.Refusal.{Refusal}
 
 -- What a call answers, and the buffer after it.
 pub record Left : Type 0 where
@@ -57,9 +56,9 @@ unfoldable pub open_buffer : List ℕ → Left
 open_buffer out = put_line out unopened (bytes "JAHIS5") start
 
 -- "34 record the reader would refuse here, fields taken as held; its number follows": the reader's own rule, over the record's parts.
-abbrev pub on_answer : List ℕ → State → Answer → List ℕ → Sofar → Left
-on_answer out t (Took r) l c = put_line out t l c
-on_answer out t (Refused f) l c = refuses out t 34 f.fault.number
+abbrev pub on_answer : List ℕ → State → Result Record Refusal → List ℕ → Sofar → Left
+on_answer out t (Ok r) l c = put_line out t l c
+on_answer out t (Err f) l c = refuses out t 34 f.fault.number
 
 -- One record, whose texts lie in lent bytes. "Any call after closing, 34 with 24."
 unfoldable pub put_record : List ℕ → State → Record → List ℕ → Left

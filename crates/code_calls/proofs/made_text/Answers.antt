@@ -3,5 +3,5 @@ use mathlib.Core.Path.{ap}
 use Rattle.date.specs.declared.Text.{Text}
 use Rattle.code_calls.proofs.made_text.Goals as goal
 
-pub returns-in-Day : goal.returns-in-Day
-returns-in-Day c = rw c.in-Day.is (ap (λ (t : Text). t.bytes) c.print-text.ensures)
+pub returns-in-Ok : goal.returns-in-Ok
+returns-in-Ok c = rw c.in-Ok.is (ap (λ (t : Text). t.bytes) c.print-text.ensures)

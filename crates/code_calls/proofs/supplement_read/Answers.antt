@@ -4,12 +4,12 @@ use Rattle.supplement.specs.Supplement.{said}
 use Rattle.code_calls.proofs.Kept.{reads_taken, reads_refused}
 use Rattle.code_calls.proofs.supplement_read.Goals as goal
 
-pub returns-in-Taken : goal.returns-in-Taken
-returns-in-Taken c =
+pub returns-in-Ok : goal.returns-in-Ok
+returns-in-Ok c =
     let r = c.read in
-    reads_taken _ (sym r.ensures ∙ ap said c.in-Taken.is) c.put_supplement.ensures
+    reads_taken _ (sym r.ensures ∙ ap said c.in-Ok.is) c.put_supplement.ensures
 
-pub returns-in-Refused : goal.returns-in-Refused
-returns-in-Refused c =
+pub returns-in-Err : goal.returns-in-Err
+returns-in-Err c =
     let r = c.read in
-    reads_refused _ (sym r.ensures ∙ ap said c.in-Refused.is)
+    reads_refused _ (sym r.ensures ∙ ap said c.in-Err.is)

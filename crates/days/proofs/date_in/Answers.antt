@@ -5,13 +5,13 @@ use Rattle.days.proofs.Walk.{good_read}
 use Rattle.days.proofs.date_in.Goals as goal
 
 pub date_of-requires : goal.date_of-requires
-date_of-requires c = good_read _ _ c.requires c.in-Taken.is c.if-x-eq68.true
+date_of-requires c = good_read _ _ c.requires c.in-Ok.is c.if-x-eq68.true
 
 pub returns-then-x-eq68 : goal.returns-then-x-eq68
-returns-then-x-eq68 c = rw (c.in-Taken.is, eq-eqb _ _ c.if-x-eq68.true) c.date_of.ensures
+returns-then-x-eq68 c = rw (c.in-Ok.is, eq-eqb _ _ c.if-x-eq68.true) c.date_of.ensures
 
-pub returns-in-Refused : goal.returns-in-Refused
-returns-in-Refused c = rw c.in-Refused.is c.no_date.ensures
+pub returns-in-Err : goal.returns-in-Err
+returns-in-Err c = rw c.in-Err.is c.no_date.ensures
 
 pub returns-else-x-eq68 : goal.returns-else-x-eq68
-returns-else-x-eq68 c = rw (c.in-Taken.is, ne_eqb _ _ c.if-x-eq68.false) c.no_date-in-Taken.ensures
+returns-else-x-eq68 c = rw (c.in-Ok.is, ne_eqb _ _ c.if-x-eq68.false) c.no_date-in-Ok.ensures

@@ -1,14 +1,14 @@
 -- A run read code by code: a code as numbers, whether it may follow the one before it, and what stops the run at it.
 -- Assumes nothing.
-use Rattle.std.specs.Prelude.{ℕ, ◌≡◌, Bool, true, false, cond, List, [], ◌∷◌, eqb, ltb, length, get_or}
+use Rattle.std.specs.Prelude.{ℕ, ◌≡◌, Bool, true, false, cond, List, [], ◌∷◌, eqb, ltb, length, get_or, Result}
 use Rattle.cells.specs.Test.{Answer, took, refused}
 use Rattle.supplement.specs.Supplement.{read_supplement, said}
 use Rattle.supplement.specs.declared.Supplement.{Supplement}
 use Rattle.supplement.specs.declared.Days.{Days}
-use Rattle.supplement.specs.declared.Reading.{Reading}
 use Rattle.days.specs.Run.{Code, code_of, upto0, last_of, mask_of, distance}
 use Rattle.days.specs.declared.Date.{Date}
 use Rattle.days.specs.declared.Halt.{Halt}
+use Rattle.cells.specs.declared.Fault.{Fault}
 
 -- The six columns of a code that was read.
 abbrev pub columns : Days → List ℕ
@@ -28,7 +28,7 @@ pub record Told (c : Code) (d : Date) : Type 0 where
   pub mask : d.mask ≡ mask_of c.days
 
 -- A reading that some characters have.
-pub record HasText (r : Reading) : Type 0 where
+pub record HasText (r : Result Supplement Fault) : Type 0 where
   pub text : List ℕ
   pub reads : said r ≡ read_supplement text
 

@@ -45,10 +45,10 @@ loop-r-preserved c = let a = c.args in
     let w = c.with_record-c in
     goes_more a.file.now a.rp l.from l.c l.marks l.invariant _ (said r.result) r.ensures (ap said_next c.in-Record.is) _ _ w.ensures.0 w.ensures.1
 
-pub returns-in-Refused : goal.returns-in-Refused
-returns-in-Refused c = let a = c.args in
+pub returns-in-Err : goal.returns-in-Err
+returns-in-Err c = let a = c.args in
     let l = c.loop-r in
-    refuses _ (goes_refused a.file.now a.rp l.from l.c l.marks l.invariant _ (ap (λ (x : Turn). x.next) (sym c.next-step.ensures) ∙ ap said_next c.in-Refused.is)) refl
+    refuses _ (goes_refused a.file.now a.rp l.from l.c l.marks l.invariant _ (ap (λ (x : Turn). x.next) (sym c.next-step.ensures) ∙ ap said_next c.in-Err.is)) refl
 
 pub returns-in-End : goal.returns-in-End
 returns-in-End c = let a = c.args in

@@ -11,10 +11,10 @@ joined-requires c = tt
 pub with_rule-requires : goal.with_rule-requires
 with_rule-requires c = tt
 
-pub returns-in-Is : goal.returns-in-Is
-returns-in-Is c = let a = c.args in
-    rw c.in-Is.is
+pub returns-in-Some : goal.returns-in-Some
+returns-in-Some c = let a = c.args in
+    rw c.in-Some.is
     (c.with_rule.ensures ∙ ap (λ (r : Rule). with_rule a.c r) c.joined.ensures, c.mark_days.ensures)
 
-pub returns-in-Empty : goal.returns-in-Empty
-returns-in-Empty c = rw c.in-Empty.is (refl, refl)
+pub returns-in-None : goal.returns-in-None
+returns-in-None c = rw c.in-None.is (refl, refl)

@@ -9,13 +9,13 @@ fixes_times-requires c = tt
 pub with_times-requires : goal.with_times-requires
 with_times-requires c = tt
 
-pub with_times-requires-in-Empty : goal.with_times-requires-in-Empty
-with_times-requires-in-Empty c = tt
+pub with_times-requires-in-None : goal.with_times-requires-in-None
+with_times-requires-in-None c = tt
 
-pub returns-in-Is : goal.returns-in-Is
+pub returns-in-Some : goal.returns-in-Some
 unfolding times_fixed times_of
-returns-in-Is c = rw (c.in-Is.is, ← c.fixes_times.ensures) c.with_times.ensures
+returns-in-Some c = rw (c.in-Some.is, ← c.fixes_times.ensures) c.with_times.ensures
 
-pub returns-in-Empty : goal.returns-in-Empty
+pub returns-in-None : goal.returns-in-None
 unfolding times_fixed times_of
-returns-in-Empty c = rw c.in-Empty.is c.with_times-in-Empty.ensures
+returns-in-None c = rw c.in-None.is c.with_times-in-None.ensures

@@ -1,13 +1,10 @@
 -- What the code keeps of the records, one after the other.
 -- Assumes nothing.
-use Rattle.std.specs.Prelude.{ℕ, ◌≡◌, Bool, true, false, cond, ◌&&◌, List, [], ◌∷◌, ltb, set}
+use Rattle.std.specs.Prelude.{ℕ, ◌≡◌, Bool, true, false, cond, ◌&&◌, List, [], ◌∷◌, ltb, set, Err, None, Ok, Option, Result, Some}
 use Rattle.day.specs.Day.{day}
 use Rattle.day.specs.declared.Day.{Day}
 use Rattle.days.specs.Run.{code_of}
 use Rattle.supplement.specs.declared.Supplement.{Supplement}
-use Rattle.record.specs.declared.UsageCode.{UsageCode}
-use Rattle.record.specs.declared.SupplementCode.{SupplementCode}
-use Rattle.record.specs.declared.SupplementCode.TheVariants.{Is as supplement_is, Empty as no_supplement}
 use Rattle.record.specs.declared.Record.{Record}
 use Rattle.record.specs.declared.Record.TheVariants.{Issue, Rp, Usage, Supplement as Supply, Drug, Kept}
 use Rattle.record.specs.declared.Refusal.{Refusal}
@@ -18,8 +15,7 @@ use Rattle.course.specs.declared.Rule.{Rule}
 use Rattle.course.specs.declared.Rule.TheVariants.{Every, Turns, Weekly, Dates, Counted}
 use Rattle.course.specs.declared.Course.{Course}
 use Rattle.dose_calendar.specs.Found.{owns, day_of, found_in}
-use Rattle.dose_calendar.specs.declared.Gathered.{Gathered}
-use Rattle.dose_calendar.specs.declared.Gathered.TheVariants.{Whole as Gathers, Refused as Stops}
+use Rattle.usage.specs.declared.Instruction.{Instruction}
 
 -- ---- one supplement more
 -- The first supplement makes the RP's rule.
@@ -51,11 +47,11 @@ course issue begins fixed times rule = record { issue = issue; begins = begins; 
 abbrev pub no_course : Course
 no_course = course (day 0 0 0) false false 0 Every
 
-abbrev pub joined_by : Rule → SupplementCode → Rule
-joined_by rule (supplement_is x) = joined rule x
-joined_by rule no_supplement = rule
+abbrev pub joined_by : Rule → Option Supplement → Rule
+joined_by rule (Some x) = joined rule x
+joined_by rule None = rule
 
-abbrev pub with_usage_of : Course → UsageCode → Course
+abbrev pub with_usage_of : Course → Option Instruction → Course
 with_usage_of c u = course c.issue c.begins (times_fixed u) (times_of u) c.rule
 
 abbrev pub with_rule : Course → Rule → Course
@@ -69,9 +65,9 @@ course_with rp c (Supply x) = cond (owns rp x.rp) (with_rule c (joined_by c.rule
 course_with rp c (Drug x) = c
 course_with rp c (Kept x) = c
 
-abbrev pub marked_by : List Bool → SupplementCode → List Bool
-marked_by marks (supplement_is x) = marked marks x
-marked_by marks no_supplement = marks
+abbrev pub marked_by : List Bool → Option Supplement → List Bool
+marked_by marks (Some x) = marked marks x
+marked_by marks None = marks
 
 abbrev pub marks_with : ℕ → List Bool → Record → List Bool
 marks_with rp marks (Issue x) = marks
@@ -82,6 +78,6 @@ marks_with rp marks (Drug x) = marks
 marks_with rp marks (Kept x) = marks
 
 -- What a file gives: its refusal, or the course of its records.
-pub data Gives (s : List ℕ) (rp : ℕ) (marks : List Bool) : Gathered → Type 0 where
-  refuses : {g : Gathered} (f : Refusal) → (read_file s).ending ≡ stopped f → g ≡ Stops f → Gives s rp marks g
-  gathers : {g : Gathered} (c : Course) → (read_file s).ending ≡ whole → Keeps c marks (found_in rp (read_file s).records) → g ≡ Gathers c → Gives s rp marks g
+pub data Gives (s : List ℕ) (rp : ℕ) (marks : List Bool) : Result Course Refusal → Type 0 where
+  refuses : {g : Result Course Refusal} (f : Refusal) → (read_file s).ending ≡ stopped f → g ≡ Err f → Gives s rp marks g
+  gathers : {g : Result Course Refusal} (c : Course) → (read_file s).ending ≡ whole → Keeps c marks (found_in rp (read_file s).records) → g ≡ Ok c → Gives s rp marks g

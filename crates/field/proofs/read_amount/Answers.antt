@@ -2,8 +2,8 @@
 -- Assumes nothing.
 use Rattle.field.proofs.read_amount.Goals as goal
 
-pub returns-in-Is : goal.returns-in-Is
-returns-in-Is c = rw (← c.read_amount.ensures, c.in-Is.is)
+pub returns-in-Ok : goal.returns-in-Ok
+returns-in-Ok c = rw (← c.read_amount.ensures, c.in-Ok.is)
 
-pub returns-in-Not : goal.returns-in-Not
-returns-in-Not c = rw (← c.read_amount.ensures, c.in-Not.is) c.refused.ensures
+pub returns-in-Err : goal.returns-in-Err
+returns-in-Err c = rw (← c.read_amount.ensures, c.in-Err.is) c.refused.ensures

@@ -2,8 +2,8 @@
 -- Assumes nothing.
 use Rattle.field.proofs.read_date.Goals as goal
 
-pub returns-in-Day : goal.returns-in-Day
-returns-in-Day c = rw (← c.read.ensures, c.in-Day.is) c.refused.ensures
+pub returns-in-Ok : goal.returns-in-Ok
+returns-in-Ok c = rw (← c.read.ensures, c.in-Ok.is) c.refused.ensures
 
-pub returns-in-None : goal.returns-in-None
-returns-in-None c = rw (← c.read.ensures, c.in-None.is) c.refused-in-None.ensures
+pub returns-in-Err : goal.returns-in-Err
+returns-in-Err c = rw (← c.read.ensures, c.in-Err.is) c.refused-in-Err.ensures

@@ -5,11 +5,11 @@ use Rattle.field.proofs.read_supplement.Goals as goal
 
 pub returns-then-joins : goal.returns-then-joins
 returns-then-joins c =
-    rw (← c.read.ensures, c.in-Taken.is, sym c.joins.ensures ∙ c.if-joins.true) c.refused.ensures
+    rw (← c.read.ensures, c.in-Ok.is, sym c.joins.ensures ∙ c.if-joins.true) c.refused.ensures
 
 pub returns-else-joins : goal.returns-else-joins
 returns-else-joins c =
-    rw (← c.read.ensures, c.in-Taken.is, sym c.joins.ensures ∙ c.if-joins.false) c.refused-in-Taken.ensures
+    rw (← c.read.ensures, c.in-Ok.is, sym c.joins.ensures ∙ c.if-joins.false) c.refused-in-Ok.ensures
 
-pub returns-in-Refused : goal.returns-in-Refused
-returns-in-Refused c = rw (← c.read.ensures, c.in-Refused.is) c.refused-in-Refused.ensures
+pub returns-in-Err : goal.returns-in-Err
+returns-in-Err c = rw (← c.read.ensures, c.in-Err.is) c.refused-in-Err.ensures

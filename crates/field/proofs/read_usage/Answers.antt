@@ -2,8 +2,8 @@
 -- Assumes nothing.
 use Rattle.field.proofs.read_usage.Goals as goal
 
-pub returns-in-Taken : goal.returns-in-Taken
-returns-in-Taken c = rw (← c.read.ensures, c.in-Taken.is) c.refused.ensures
+pub returns-in-Ok : goal.returns-in-Ok
+returns-in-Ok c = rw (← c.read.ensures, c.in-Ok.is) c.refused.ensures
 
-pub returns-in-Refused : goal.returns-in-Refused
-returns-in-Refused c = rw (← c.read.ensures, c.in-Refused.is) c.refused-in-Refused.ensures
+pub returns-in-Err : goal.returns-in-Err
+returns-in-Err c = rw (← c.read.ensures, c.in-Err.is) c.refused-in-Err.ensures

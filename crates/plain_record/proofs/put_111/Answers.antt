@@ -7,17 +7,17 @@ use lib.Seq.{sets}
 use borrow.Author.Rules.{rules}
 use Rattle.plain_record.proofs.put_111.Goals as goal
 
-pub slice_bounds-put-end-in-Is : goal.slice_bounds-put-end-in-Is
-slice_bounds-put-end-in-Is c = sym (ap length c.put_usage.ensures)
+pub slice_bounds-put-end-in-Some : goal.slice_bounds-put-end-in-Some
+slice_bounds-put-end-in-Some c = sym (ap length c.put_usage.ensures)
 
 pub put-requires : goal.put-requires
 put-requires c = rw c.put_usage.ensures (search rules)
 
-pub returns-in-Is : goal.returns-in-Is
-returns-in-Is c =
+pub returns-in-Some : goal.returns-in-Some
+returns-in-Some c =
     let a = c.args in
     let x = a.x in
-    rw c.in-Is.is
+    rw c.in-Some.is
     (c.put.ensures ∙ ap (λ (s : List ℕ). sets (sets a.n.now 0 (111 ∷ x.rp.0 ∷ x.kind ∷ x.name.from ∷ x.name.to ∷ x.times ∷ [])) 6 s) c.put_usage.ensures)
 
 pub returns-in_default : goal.returns-in_default

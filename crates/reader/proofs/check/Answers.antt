@@ -22,7 +22,7 @@ pub overflow_add-n : goal.overflow_add-n
 overflow_add-n c =
     let a = c.args in
     let l = c.loop-u in
-    let h = sym c.pass.ensures ∙ c.in-On.is in
+    let h = sym c.pass.ensures ∙ c.in-Ok-Some.is in
     let k : c.loop-u.n + 1 < length a.s.now = passed_room a.s.now l.t l.n l.invariant _ h in
     omega (arith, k)
 
@@ -30,25 +30,25 @@ pub loop-u-smaller : goal.loop-u-smaller
 loop-u-smaller c =
     let a = c.args in
     let l = c.loop-u in
-    let h = sym c.pass.ensures ∙ c.in-On.is in
+    let h = sym c.pass.ensures ∙ c.in-Ok-Some.is in
     passed_less a.s.now l.t l.n l.invariant _ h
 
 pub loop-u-preserved : goal.loop-u-preserved
 loop-u-preserved c =
     let a = c.args in
     let l = c.loop-u in
-    let h = sym c.pass.ensures ∙ c.in-On.is in
+    let h = sym c.pass.ensures ∙ c.in-Ok-Some.is in
     passed_more a.s.now l.t l.n l.invariant _ h
 
-pub returns-in-Refused : goal.returns-in-Refused
-returns-in-Refused c =
+pub returns-in-Err : goal.returns-in-Err
+returns-in-Err c =
     let a = c.args in
     let l = c.loop-u in
-    let h = sym c.pass.ensures ∙ c.in-Refused.is in
+    let h = sym c.pass.ensures ∙ c.in-Err.is in
     sym (passed_refused a.s.now l.t l.n l.invariant _ h)
 
-pub returns-in-End : goal.returns-in-End
-returns-in-End c =
+pub returns-in-Ok-None : goal.returns-in-Ok-None
+returns-in-Ok-None c =
     let a = c.args in
     let l = c.loop-u in
-    sym (passed_end a.s.now l.t l.n l.invariant (sym c.pass.ensures ∙ c.in-End.is))
+    sym (passed_end a.s.now l.t l.n l.invariant (sym c.pass.ensures ∙ c.in-Ok-None.is))

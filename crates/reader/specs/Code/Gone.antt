@@ -1,31 +1,28 @@
 -- A call by the line that it reads; and a call without its record: where the reader goes on, or why it does not.
 -- Assumes nothing.
-use Rattle.std.specs.Prelude.{ℕ}
+use Rattle.std.specs.Prelude.{ℕ, Err, None, Ok, Option, Result, Some}
 use Rattle.record.specs.declared.Sofar.{Sofar}
-use Rattle.record.specs.declared.Answer.{Answer}
-use Rattle.record.specs.declared.Answer.TheVariants.{Took, Refused as NotTook}
-use Rattle.record.specs.declared.Passed.{Passed}
-use Rattle.record.specs.declared.Passed.TheVariants.{On as Along, Refused as Stopped}
 use Rattle.reader.specs.Said.{Next, Hands, Refuses, End as Ends, Turn}
 use Rattle.reader.specs.declared.State.{State}
-use Rattle.reader.specs.declared.Gone.{Gone}
-use Rattle.reader.specs.declared.Gone.TheVariants.{On, Refused, End}
+use Rattle.record.specs.declared.Record.{Record}
+use Rattle.record.specs.declared.Refusal.{Refusal}
+use Rattle.record.specs.declared.Onward.{Onward}
 
 -- A record is handed out, and the reader goes on after it; a line that is refused leaves what it came with.
-abbrev pub moves_on : State → Answer → ℕ → Sofar → Turn
-moves_on t (Took r) next c = record { next = Hands r; state = record { number = 0; at = next; sofar = c } }
-moves_on t (NotTook f) next c = record { next = Refuses f; state = record { number = t.number; at = t.at; sofar = c } }
+abbrev pub moves_on : State → Result Record Refusal → ℕ → Sofar → Turn
+moves_on t (Ok r) next c = record { next = Hands r; state = record { number = 0; at = next; sofar = c } }
+moves_on t (Err f) next c = record { next = Refuses f; state = record { number = t.number; at = t.at; sofar = c } }
 
-abbrev pub gone : Next → State → Gone
-gone (Hands r) t = On t
-gone (Refuses f) t = Refused f
-gone Ends t = End
+abbrev pub gone : Next → State → Result (Option State) Refusal
+gone (Hands r) t = Ok (Some t)
+gone (Refuses f) t = Err f
+gone Ends t = (Ok None)
 
 -- Of a call,
-abbrev pub gone_of : Turn → Gone
+abbrev pub gone_of : Turn → Result (Option State) Refusal
 gone_of x = gone x.next x.state
 
 -- and of a line that is passed.
-abbrev pub gone_by : Passed → Gone
-gone_by (Along x) = On (record { number = 0; at = x.next; sofar = x.sofar })
-gone_by (Stopped f) = Refused f
+abbrev pub gone_by : Result Onward Refusal → Result (Option State) Refusal
+gone_by (Ok x) = Ok (Some (record { number = 0; at = x.next; sofar = x.sofar }))
+gone_by (Err f) = Err f

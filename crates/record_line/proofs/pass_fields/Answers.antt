@@ -6,15 +6,15 @@ use lib.ListN.{length, get_or}
 use Rattle.line.specs.Fields.{join, fields_at}
 use Rattle.field.specs.Field.{context}
 use Rattle.record_line.specs.Line.{passed_of}
-use Rattle.record.specs.declared.Passed.TheVariants.{Refused}
 use Rattle.record_line.proofs.Built.{row_after, fields_end, ends_within, took_on, right_line, wrong_line}
+use Rattle.std.specs.Prelude.{Err}
 use Rattle.record_line.proofs.pass_fields.Goals as goal
 
 pub returns-then-w-ne0 : goal.returns-then-w-ne0
 returns-then-w-ne0 c =
     let a = c.args in
     let r = c.read-w in
-    ap Refused c.refused_fields.ensures
+    ap Err c.refused_fields.ensures
     ∙ ap passed_of (wrong_line a.c.last (context a.c.before) a.s.now a.at a.n a.from r.result r.ensures.0 c.if-w-ne0.true)
 
 pub left-requires : goal.left-requires

@@ -1,6 +1,6 @@
 -- Records built from what was read of their fields.
 -- Assumes nothing.
-use Rattle.std.specs.Prelude.{ℕ, ◌+◌, ◌-◌, ◌≤◌, ◌<◌, ◌^◌, ◌≡◌, cond, List, eqb, length, get_or}
+use Rattle.std.specs.Prelude.{ℕ, ◌+◌, ◌-◌, ◌≤◌, ◌<◌, ◌^◌, ◌≡◌, cond, List, eqb, length, get_or, Err, Ok}
 use Rattle.line.specs.Fields.{fields_at}
 use Rattle.field.specs.Field.{Context}
 use Rattle.field.specs.declared.Before.{Before}
@@ -12,7 +12,6 @@ use Rattle.record.specs.declared.Place.{Place}
 use Rattle.record.specs.declared.Record.{Record}
 use Rattle.record.specs.declared.Sofar.{Sofar}
 use Rattle.record.specs.declared.Refusal.{Refusal}
-use Rattle.record.specs.declared.Answer.TheVariants.{Took, Refused}
 use Rattle.record.specs.declared.Line.{Line}
 use Rattle.record_line.specs.declared.Head.{Head}
 
@@ -58,12 +57,12 @@ sofar last c = record { last = last; before = c.before }
 
 -- A line that is refused.
 abbrev pub refused_line : Sofar → Refusal → Line
-refused_line c f = record { answer = Refused f; next = 0; sofar = c }
+refused_line c f = record { answer = Err f; next = 0; sofar = c }
 
 -- A line that is taken, from what its fields are read as.
 abbrev pub took_line : Before → ℕ → List ℕ → ℕ → Row → Line
 took_line b n s from w =
-    record { answer = Took (row_record n s from w); next = w.after + 1; sofar = after b (row_record n s from w) }
+    record { answer = Ok (row_record n s from w); next = w.after + 1; sofar = after b (row_record n s from w) }
 
 -- The fields of a record at an offset, of which the first begins at `from`.
 unfoldable pub fields_line : ℕ → Context → List ℕ → ℕ → ℕ → ℕ → Line

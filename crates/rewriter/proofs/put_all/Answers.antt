@@ -45,13 +45,13 @@ loop-r-preserved c =
     let w = c.add-told in
     (w.auto.out ∙ l.invariant.0, puts_more s l.from l.out l.told.state _ l.invariant.1 _ (said r.result) r.ensures (ap said_next c.in-Record.is) _ w.ensures)
 
-pub shape_of-out-in-Refused : goal.shape_of-out-in-Refused
-shape_of-out-in-Refused c = c.loop-r.invariant.0 ∙ c.begin-told.auto.out
+pub shape_of-out-in-Err : goal.shape_of-out-in-Err
+shape_of-out-in-Err c = c.loop-r.invariant.0 ∙ c.begin-told.auto.out
 
-pub returns-in-Refused : goal.returns-in-Refused
-returns-in-Refused c =
+pub returns-in-Err : goal.returns-in-Err
+returns-in-Err c =
     let l = c.loop-r in
-    puts_refused c.args.s.now l.from l.out l.told.state _ l.invariant.1 _ (ap (λ (x : Turn). x.next) (sym c.next-step.ensures) ∙ ap said_next c.in-Refused.is)
+    puts_refused c.args.s.now l.from l.out l.told.state _ l.invariant.1 _ (ap (λ (x : Turn). x.next) (sym c.next-step.ensures) ∙ ap said_next c.in-Err.is)
 
 pub finish-last-requires : goal.finish-last-requires
 finish-last-requires c = tt

@@ -18,10 +18,10 @@ returns-in-Record c =
     let a = c.args in
     sym (never_record a.s.now a.out.now _ (sym c.walk.ensures ∙ ap said_next c.in-Record.is))
 
-pub returns-in-Refused : goal.returns-in-Refused
-returns-in-Refused c =
+pub returns-in-Err : goal.returns-in-Err
+returns-in-Err c =
     let a = c.args in
-    sym (refused a.s.now a.out.now _ (sym c.walk.ensures ∙ ap said_next c.in-Refused.is))
+    sym (refused a.s.now a.out.now _ (sym c.walk.ensures ∙ ap said_next c.in-Err.is))
 
 pub returns-in-End : goal.returns-in-End
 returns-in-End c =

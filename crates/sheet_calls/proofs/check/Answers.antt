@@ -4,14 +4,14 @@ use Rattle.reader.specs.Said.{said_check}
 use Rattle.sheet_calls.proofs.Kept.{checks_on, checks_refused}
 use Rattle.sheet_calls.proofs.check.Goals as goal
 
-pub returns-in-Records : goal.returns-in-Records
-returns-in-Records c =
+pub returns-in-Ok : goal.returns-in-Ok
+returns-in-Ok c =
     let a = c.args in
     let k = c.check in
-    checks_on _ a.records.now _ (sym k.ensures ∙ ap said_check c.in-Records.is)
+    checks_on _ a.records.now _ (sym k.ensures ∙ ap said_check c.in-Ok.is)
 
-pub returns-in-Refused : goal.returns-in-Refused
-returns-in-Refused c =
+pub returns-in-Err : goal.returns-in-Err
+returns-in-Err c =
     let a = c.args in
     let k = c.check in
-    checks_refused _ a.records.now _ (sym k.ensures ∙ ap said_check c.in-Refused.is) _ _ c.put_refusal.ensures
+    checks_refused _ a.records.now _ (sym k.ensures ∙ ap said_check c.in-Err.is) _ _ c.put_refusal.ensures

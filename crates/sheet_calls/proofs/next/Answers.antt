@@ -16,12 +16,12 @@ returns-in-Record c =
     let n = c.put_reader.ensures in
     steps_on _ a.state.now a.numbers.now _ h _ _ (n.0 ∙ ap (λ (x : Turn). reader_numbers x.state) e, n.1 ∙ ap (λ (x : Turn). x.state) e) c.put_record.ensures
 
-pub returns-in-Refused : goal.returns-in-Refused
-returns-in-Refused c =
+pub returns-in-Err : goal.returns-in-Err
+returns-in-Err c =
     let a = c.args in
     let e : said c.next-step.result ≡ next_record a.file.now (reader_of a.state.now) =
     c.next-step.ensures ∙ (λ i. next_record a.file.now (c.reader_state.ensures i)) in
-    let h = ap (λ (x : Turn). x.next) (sym e) ∙ ap said_next c.in-Refused.is in
+    let h = ap (λ (x : Turn). x.next) (sym e) ∙ ap said_next c.in-Err.is in
     steps_refused _ a.state.now a.numbers.now _ h _ _ c.put_refusal.ensures (sym (again_refused a.file.now (reader_of a.state.now) _ h))
 
 pub returns-in-End : goal.returns-in-End

@@ -1,16 +1,15 @@
 -- A code that was written and read back, and what writing answers by it.
 -- Assumes nothing.
-use Rattle.std.specs.Prelude.{ℕ, Bool, false, cond, List, [], ◌∷◌}
+use Rattle.std.specs.Prelude.{ℕ, Bool, false, cond, List, [], ◌∷◌, Err, Ok, Result}
 use Rattle.usage.specs.declared.Instruction.{Instruction}
-use Rattle.usage.specs.declared.Reading.{Reading}
-use Rattle.usage.specs.declared.Reading.TheVariants.{Taken, Refused}
 use Rattle.usage_writer.specs.Print.{same}
 use Rattle.usage_writer.specs.declared.Written.{Written}
+use Rattle.cells.specs.declared.Fault.{Fault}
 
 -- a reading is that of an instruction
-abbrev pub agrees : Reading → Instruction → Bool
-agrees (Taken j) i = same i j
-agrees (Refused f) i = false
+abbrev pub agrees : Result Instruction Fault → Instruction → Bool
+agrees (Ok j) i = same i j
+agrees (Err f) i = false
 
 -- the code, or sixteen 0 bytes
 abbrev pub answer : Bool → List ℕ → Written
