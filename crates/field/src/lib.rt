@@ -14,7 +14,6 @@ ghost use Rattle.field.specs.Code.Read.{usage_field, supplement_field, code_fiel
 
 use cells::Fault;
 use counter::{DrugSerial, RpNumber, SupplementSerial};
-use number::Number;
 use schedule::Schedule;
 
 // Whether a field may be empty.

@@ -27,10 +27,10 @@ use Rattle.reader.specs.File.{File, whole, stopped, lines_of, on, closing, in_li
 use Rattle.std.specs.Prelude.{Err, Ok, Result}
 
 -- a refusal is no record
-no_record : {P : Type 0} (f : Refusal) (r : Record) → Err f ≡ Ok r → P
+no_record : {P : Type 0} (f : Refusal) (r : Record) → ◌≡◌ {A = Result Record Refusal} (Err f) (Ok r) → P
 no_record f r h = absurd (let z : ◌≡◌ {A = ℕ} 0 1 = cc in omega arith)
 
-same_record : (q r : Record) → Ok q ≡ Ok r → q ≡ r
+same_record : (q r : Record) → ◌≡◌ {A = Result Record Refusal} (Ok q) (Ok r) → q ≡ r
 same_record q r h = cc
 
 -- The record of a number has that number.

@@ -7,10 +7,10 @@ ghost use Rattle.reader.specs.Open.{version_line};
 ghost use Rattle.reader.specs.Said.{said, said_check};
 ghost use Rattle.reader.specs.File.{check_file};
 ghost use Rattle.reader.specs.Reader.{opened as opened_of, open_file, refuses, end_at, said_again, closing, next_record};
-ghost use Rattle.reader.specs.Code.Gone.{moves_on, gone_of, gone_by};
+ghost use Rattle.reader.specs.Code.Gone.{moves_on, gone_of};
 
 use cells::Fault;
-use record::{Onward, Record, Refusal, Sofar};
+use record::{Record, Refusal, Sofar};
 
 // Where the reader is in the file, and what the records before leave. A file that was refused on opening keeps its number here (20, 21 or 22;
 // 0 where it is open), and the offset in `at`. Any other number is that of a reader that was never opened.
@@ -169,24 +169,7 @@ pub fn next(s: &[u8], t: State) -> Step
 
 // ---- a file checked, with no record made
 
-// The state after a line that is passed, or its refusal.
-fn went(p: Result<Onward, Refusal>) -> Result<Option<State>, Refusal>
-    ensures { result ≡ gone_by p }
-{
-    match p {
-        Ok(x) => {
-            let sofar = x.sofar;
-            Gone::On(State {
-                number: 0,
-                at: x.next,
-                sofar: sofar,
-            })
-        }
-        Err(f) => Err(f),
-    }
-}
-
-// Passes the next record.
+// Passes the next record: the state after it, or nothing at the end.
 fn pass(s: &[u8], t: State) -> Result<Option<State>, Refusal>
     ensures { result ≡ gone_of (next_record s.now t) }
 {
@@ -195,7 +178,12 @@ fn pass(s: &[u8], t: State) -> Result<Option<State>, Refusal>
         return Err(refusal_at(said_again(t.number), at));
     }
     if !ends(s, at) {
-        return went(record_line::pass(t.sofar, s, at));
+        let passed = record_line::pass(t.sofar, s, at)?;
+        return Ok(Some(State {
+            number: 0,
+            at: passed.next,
+            sofar: passed.sofar,
+        }));
     }
     if order::closes(t.sofar.last) {
         return Ok(None);
@@ -203,24 +191,15 @@ fn pass(s: &[u8], t: State) -> Result<Option<State>, Refusal>
     Err(refusal_at(32, at))
 }
 
-// Reads a whole file, record by record.
+// Reads a whole file, record by record: how many records it has with its version line, or its refusal.
 pub fn check(s: &[u8]) -> Result<usize, Refusal>
     ensures { said_check result ≡ check_file s.now }
 {
     let mut t = open(s);
     let mut n: usize = 1;
-    loop {
-        match pass(s, t) {
-            Ok(Some(u)) => {
-                t = u;
-                n += 1;
-            }
-            Err(f) => {
-                return Err(f);
-            }
-            Ok(None) => {
-                return Ok(n);
-            }
-        }
+    while let Some(after) = pass(s, t)? {
+        t = after;
+        n += 1;
     }
+    Ok(n)
 }

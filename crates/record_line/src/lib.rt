@@ -14,18 +14,17 @@ ghost use Rattle.record_line.specs.Fields.{kept_field};
 ghost use Rattle.record_line.specs.Line.{refusal as refusal_of, row_refusal, number_in, line_at, passed_of};
 ghost use Rattle.record_line.specs.Code.Built.{Room, place_in, first_place, built_of, refused_line, fields_line, Heads, Leaves};
 
-use supplement::Supplement;
-use usage::Instruction;
 use cells::Fault;
 use counter::{DrugSerial, RpNumber, SupplementSerial};
 use date::Date;
 use field::Before;
-use number::Number;
 use record::{
-    Kept, Line, Onward, Place, Record, Record51, Record101, Record111, Record181, Record201, Refusal,
-    Sofar,
+    Kept, Line, Onward, Place, Record, Record51, Record101, Record111, Record181, Record201,
+    Refusal, Sofar,
 };
 use row::Row;
+use supplement::Supplement;
+use usage::Instruction;
 
 // The nth field, counted from 1, of a record that is kept; nothing where it has fewer.
 pub fn kept_field(s: &[u8], k: Kept, n: usize) -> &[u8]

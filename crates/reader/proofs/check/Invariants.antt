@@ -4,8 +4,8 @@ use lib.ListN.{length}
 use Rattle.reader.proofs.Laws.{Counts}
 use Rattle.reader.proofs.check.Given as goal
 
-abbrev pub invariant-loop-u : goal.invariant-loop-u
-invariant-loop-u l = Counts l.s l.t l.n
+abbrev pub invariant-loop-after : goal.invariant-loop-after
+invariant-loop-after l = Counts l.s l.t l.n
 
-abbrev pub decreases-loop-u : goal.decreases-loop-u
-decreases-loop-u l = length l.s - l.t.at
+abbrev pub decreases-loop-after : goal.decreases-loop-after
+decreases-loop-after l = length l.s - l.t.at

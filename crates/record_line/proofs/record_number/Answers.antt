@@ -20,11 +20,11 @@ small f =
     (λ e. simp e (leb-true _ _ (and_parts (leb 1 (value 0 f)) _ (and_parts (shortest f) _ e).1).1))
     (λ e. simp e (omega arith))
 
-pub returns-in-Some : goal.returns-in-Some
-returns-in-Some c =
+pub returns-in-Ok : goal.returns-in-Ok
+returns-in-Ok c =
     let f = c.args.f.now in
-    let e : c.in-Some.n ≡ number_in (read_number 1 999 f) =
-    ap number_in (sym (ap said c.in-Some.is) ∙ c.read.ensures) in
+    let e : c.in-Ok.n ≡ number_in (read_number 1 999 f) =
+    ap number_in (sym (ap said c.in-Ok.is) ∙ c.read.ensures) in
     omega (arith, e, small f)
 
 pub returns-in-Err : goal.returns-in-Err
