@@ -21,9 +21,9 @@ use Rattle.record.specs.declared.Refusal.{Refusal}
 
 -- Two answers that say the same are the same.
 pub one_answer : (a b : Result ⊤ Refusal) → said a ≡ said b → a ≡ b
-one_answer (Ok tt) (Ok tt) e = refl
-one_answer (Ok tt) (Err g) e = cc
-one_answer (Err f) (Ok tt) e = cc
+one_answer (Ok _) (Ok _) e = refl
+one_answer (Ok _) (Err g) e = cc
+one_answer (Err f) (Ok _) e = cc
 one_answer (Err f) (Err g) e = cc
 
 -- where the start is not taken, the doses do not count

@@ -97,7 +97,7 @@ pub data Told : Type 0 where
 
 -- What the code answers.
 abbrev pub said : Result ⊤ Refusal → Told
-said (Ok tt) = Fills
+said (Ok _) = Fills
 said (Err f) = Refuses f
 
 -- What is told, and every place of the lent output after it: the doses, and behind them what stood there; "lent bytes stay" where it is refused.

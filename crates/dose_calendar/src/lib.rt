@@ -241,16 +241,12 @@ fn gather(file: &[u8], rp: u32, marks: &mut [bool; 416]) -> Result<Course, Refus
     let mut c = no_course();
     loop {
         let step = reader::next(file, from);
-        let handed = step.next;
-        match handed {
-            Ok(Some(r)) => {
+        match step.next? {
+            Some(r) => {
                 c = with_record(c, marks, rp, r);
                 from = step.state;
             }
-            Err(f) => {
-                return Err(f);
-            }
-            Ok(None) => {
+            None => {
                 return Ok(c);
             }
         }
@@ -270,9 +266,6 @@ pub fn fill(
     ensures { record { told = said result; output = out.new } ≡ answers (calendar_of file.now rp (day_by year month day) days (length out.old)) out.old }
 {
     let mut marks = [false; 416];
-    let gathered = gather(file, rp, &mut marks);
-    match gathered {
-        Ok(c) => course::fill(c, &marks, year, month, day, days, out),
-        Err(f) => Err(f),
-    }
+    let c = gather(file, rp, &mut marks)?;
+    course::fill(c, &marks, year, month, day, days, out)
 }

@@ -15,8 +15,7 @@ fn put_all(s: &[u8], out: &mut [u8]) -> usize
     let mut told = draft::begin(out);
     loop {
         let step = reader::next(s, from);
-        let handed = step.next;
-        match handed {
+        match step.next {
             Ok(Some(r)) => {
                 told = draft::add(out, told, r, s);
                 from = step.state;
@@ -41,8 +40,7 @@ pub fn rewrite(s: &[u8], out: &mut [u8]) -> usize
         return 0;
     }
     match sheet::walk(s) {
-        Ok(Some(_)) => 0,
         Err(_) => 0,
-        Ok(None) => put_all(s, out),
+        Ok(()) => put_all(s, out),
     }
 }

@@ -50,3 +50,13 @@ tells_ends s a t f p (later h e) =
 
 pub ends_file : (s : List ℕ) (a : Next) → Ends s a (open_file s) → a ≡ ending_of (read_file s).ending
 ends_file s a e = tells_ends s a (open_file s) (read_file s) (from_opening s) e
+
+-- An ending is told by how the calls end.
+one_ending : (d e : Ending) → ending_of d ≡ ending_of e → d ≡ e
+one_ending whole whole h = refl
+one_ending whole (stopped g) h = cc
+one_ending (stopped f) whole h = cc
+one_ending (stopped f) (stopped g) h = cc
+
+pub walked : (s : List ℕ) (e : Ending) → Ends s (ending_of e) (open_file s) → e ≡ (read_file s).ending
+walked s e h = one_ending e (read_file s).ending (ends_file s (ending_of e) h)

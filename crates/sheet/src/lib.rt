@@ -3,13 +3,13 @@
 
 ghost use Rattle.std.specs.Prelude.{◌≡◌};
 ghost use Rattle.record.specs.Record.{text_at};
-ghost use Rattle.reader.specs.Said.{said_next, said};
+ghost use Rattle.reader.specs.Said.{said};
 ghost use Rattle.reader.specs.File.{read_file};
 ghost use Rattle.reader.specs.Reader.{open_file, next_record, ending_of};
-ghost use Rattle.sheet.specs.Walk.{hands as hands_of, Ends};
+ghost use Rattle.sheet.specs.Walk.{Ends, how_it_ends};
 
 use reader::{State, Step};
-use record::{Place, Record, Refusal};
+use record::{Place, Refusal};
 
 // The lent file, and where the reader is in it.
 #[derive(Clone, Copy)]
@@ -50,37 +50,24 @@ pub fn text<'a>(r: Sheet<'a>, p: Place) -> &'a [u8]
     record::text(r.file, p)
 }
 
-// Does a step hand out a record?
-fn hands(s: Step) -> bool
-    ensures { result ≡ hands_of (said_next s.next) }
-{
-    let answer = s.next;
-    match answer {
-        Ok(Some(_)) => true,
-        Err(_) => false,
-        Ok(None) => false,
-    }
-}
-
-// The sheet read to its end: the answer that hands out no record.
-fn last<'a>(r: Sheet<'a>) -> Result<Option<Record>, Refusal>
-    ensures { Ends r.entry.file.now (said_next result) r.entry.state }
+// The sheet read to its end, or to its refusal.
+fn last<'a>(r: Sheet<'a>) -> Result<(), Refusal>
+    ensures { Ends r.entry.file.now (ending_of (how_it_ends result)) r.entry.state }
 {
     let mut t = r;
     loop {
         let s = next(t);
-        if hands(s) {
-            t = after(t, s);
-        } else {
-            return s.next;
+        if s.next?.is_none() {
+            return Ok(());
         }
+        t = after(t, s);
     }
 }
 
 // How a file ends: the end, or its refusal. A sheet is opened and read to its end. It, `begin` and `step` speak of no sheet, so whoever calls them
 // carries no struct with what was lent.
-pub fn walk(file: &[u8]) -> Result<Option<Record>, Refusal>
-    ensures { said_next result ≡ ending_of (read_file file.now).ending }
+pub fn walk(file: &[u8]) -> Result<(), Refusal>
+    ensures { how_it_ends result ≡ (read_file file.now).ending }
 {
     last(open(file))
 }

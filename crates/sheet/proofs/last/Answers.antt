@@ -7,8 +7,11 @@ use mathlib.Core.List.{List}
 use native.Mathlib.Omega.{arith}
 use lib.ListN.{length}
 use Rattle.record.specs.declared.Record.{Record}
-use Rattle.reader.specs.Reader.{next_record}
-use Rattle.reader.specs.Said.{Next, Hands, Refuses, End, Turn}
+use Rattle.reader.specs.Reader.{next_record, ending_of}
+use Rattle.std.proofs.Common.{rules}
+use Rattle.std.specs.Prelude.{Option, Some, None, Result, Ok, Err, is_some}
+use Rattle.record.specs.declared.Refusal.{Refusal}
+use Rattle.reader.specs.Said.{Next, Hands, Refuses, End, Turn, said_next}
 use Rattle.reader.specs.declared.State.{State}
 use Rattle.reader.proofs.Laws.{moves, was_inside}
 use Rattle.sheet.specs.Walk.{hands as hands_of, Ends, here, later}
@@ -34,10 +37,19 @@ stops : (s u : List ℕ) (t : State) (a : Next) → u ≡ s → hands_of (next_r
 stops s u t a g h e =
     here (subst (λ (x : List ℕ). hands_of (next_record x t).next ≡ false) g h) (subst (λ (x : List ℕ). a ≡ (next_record x t).next) g e)
 
+-- an answer with a record hands one out, and one without is the end
+some_hands : (x : Result (Option Record) Refusal) (o : Option Record) → x ≡ Ok o → is_some o ≡ true → hands_of (said_next x) ≡ true
+some_hands x (Some r) e h = ap (λ (y : Result (Option Record) Refusal). hands_of (said_next y)) e
+some_hands x None e h = absurd (let z : ◌≡◌ {A = ℕ} 0 1 = cc in omega arith)
+
+none_ends : (x : Result (Option Record) Refusal) (o : Option Record) → x ≡ Ok o → is_some o ≡ false → said_next x ≡ End
+none_ends x (Some r) e h = absurd (let z : ◌≡◌ {A = ℕ} 0 1 = cc in omega arith)
+none_ends x None e h = ap said_next e
+
 pub loop-t-smaller : goal.loop-t-smaller
 loop-t-smaller c =
     let d = c.loop-t.t in
-    let h = sym (ap (λ (x : Turn). hands_of x.next) c.next-s.ensures) ∙ sym c.hands.ensures ∙ c.if-hands.true in
+    let h = sym (ap (λ (x : Turn). hands_of x.next) c.next-s.ensures) ∙ some_hands _ _ c.in_ok-s.was c.if-is_none.ensures in
     omega (
       arith,
       less d.file.now d.state h,
@@ -50,7 +62,7 @@ pub loop-t-preserved : goal.loop-t-preserved
 loop-t-preserved c =
     let d = c.loop-t.t in
     let r = c.args.r in
-    let h = sym (ap (λ (x : Turn). hands_of x.next) c.next-s.ensures) ∙ sym c.hands.ensures ∙ c.if-hands.true in
+    let h = sym (ap (λ (x : Turn). hands_of x.next) c.next-s.ensures) ∙ some_hands _ _ c.in_ok-s.was c.if-is_none.ensures in
     let k = ap (λ (x : Sheet). x.state) c.after-t.ensures ∙ ap (λ (x : Turn). x.state) c.next-s.ensures in
     let g : d.file.now ≡ r.file.now = cc (c.loop-t.invariant.same_file) in
     record {
@@ -60,10 +72,20 @@ loop-t-preserved c =
           c.loop-t.invariant.ends_alike a (goes r.file.now d.file.now d.state a g h (subst (λ (t : State). Ends r.file.now a t) k e));
     }
 
-pub returns-else-hands : goal.returns-else-hands
-returns-else-hands c =
+pub returns-in_err-s : goal.returns-in_err-s
+returns-in_err-s c =
     let d = c.loop-t.t in
     let r = c.args.r in
-    let h = sym (ap (λ (x : Turn). hands_of x.next) c.next-s.ensures) ∙ sym c.hands.ensures ∙ c.if-hands.false in
+    let f = c.in_err-s.field-0.0 in
+    let e : c.from_residual.result ≡ Err f = search rules in
+    let n : (next_record d.file.now d.state).next ≡ Refuses f = ap (λ (x : Turn). x.next) (sym c.next-s.ensures) ∙ ap said_next c.in_err-s.was in
     let g : d.file.now ≡ r.file.now = cc (c.loop-t.invariant.same_file) in
-    c.loop-t.invariant.ends_alike _ (stops r.file.now d.file.now d.state _ g h (ap (λ (x : Turn). x.next) c.next-s.ensures))
+    rw e (c.loop-t.invariant.ends_alike _ (stops r.file.now d.file.now d.state _ g (ap hands_of n) (sym n)))
+
+pub returns-then-is_none : goal.returns-then-is_none
+returns-then-is_none c =
+    let d = c.loop-t.t in
+    let r = c.args.r in
+    let n : (next_record d.file.now d.state).next ≡ End = ap (λ (x : Turn). x.next) (sym c.next-s.ensures) ∙ none_ends _ _ c.in_ok-s.was c.if-is_none.ensures in
+    let g : d.file.now ≡ r.file.now = cc (c.loop-t.invariant.same_file) in
+    c.loop-t.invariant.ends_alike _ (stops r.file.now d.file.now d.state _ g (ap hands_of n) (sym n))

@@ -3,12 +3,12 @@
 use mathlib.Core.Path.{ap, subst}
 use Prim.Native.Nat.{ℕ}
 use mathlib.Core.List.{List}
-use Rattle.reader.specs.Said.{said_next}
-use Rattle.sheet.specs.Walk.{Ends}
+use Rattle.reader.specs.Reader.{ending_of}
+use Rattle.sheet.specs.Walk.{Ends, how_it_ends}
 use Rattle.sheet.specs.declared.Sheet.{Sheet}
-use Rattle.sheet.proofs.Laws.{ends_file}
+use Rattle.sheet.proofs.Laws.{walked}
 use Rattle.sheet.proofs.walk.Goals as goal
 
 pub returns : goal.returns
 returns c =
-    ends_file c.args.file.now _ (subst (λ (x : Sheet). Ends x.file.now (said_next c.last.result) x.state) c.open.ensures c.last.ensures)
+    walked c.args.file.now _ (subst (λ (x : Sheet). Ends x.file.now (ending_of (how_it_ends c.last.result)) x.state) c.open.ensures c.last.ensures)
