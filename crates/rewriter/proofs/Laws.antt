@@ -15,19 +15,6 @@ use Rattle.reader.specs.Reader.{ending_of}
 use Rattle.reader.specs.Said.{Hands, Refuses, End}
 use Rattle.rewriter.specs.Rewritten.{Again, nothing, on_ending, rewritten}
 
--- A sheet that is read to its end is whole,
-pub ended_whole : (s : List ℕ) → ending_of (read_file s).ending ≡ End → (read_file s).ending ≡ whole
-ended_whole s h = by (read_file s).ending refl
-  where
-    by : (e : Ending) → (read_file s).ending ≡ e → (read_file s).ending ≡ whole
-    by whole e = e
-    by (stopped f) e = absurd (let k = rw e at h in let z : ◌≡◌ {A = ℕ} 0 1 = cc in omega arith)
-
--- and none ends with a record.
-no_record : (e : Ending) (r : Record) → ending_of e ≡ Hands r → ⊥
-no_record whole r h = let z : ◌≡◌ {A = ℕ} 0 1 = cc in omega arith
-no_record (stopped f) r h = let z : ◌≡◌ {A = ℕ} 0 1 = cc in omega arith
-
 module _ (s out : List ℕ) where
   -- Nothing is written into a buffer that is shorter than the sheet,
   pub too_short : length out < length s → rewritten s out ≡ nothing out
@@ -35,16 +22,9 @@ module _ (s out : List ℕ) where
   too_short h = rw (lt-leb (length s) (length out) h)
 
   -- nor of a sheet that is refused;
-  pub refused : (f : Refusal) → ending_of (read_file s).ending ≡ Refuses f → rewritten s out ≡ nothing out
+  pub refused : (f : Refusal) → (read_file s).ending ≡ stopped f → rewritten s out ≡ nothing out
   unfolding rewritten
-  refused f h = by (read_file s).ending refl
-    where
-      by : (e : Ending) → (read_file s).ending ≡ e → rewritten s out ≡ nothing out
-      by whole e = absurd (let k = rw e at h in let z : ◌≡◌ {A = ℕ} 0 1 = cc in omega arith)
-      by (stopped g) e = split (leb (length s) (length out)) (λ k. rw (k, e)) (λ k. rw k)
-
-  pub never_record : (r : Record) → ending_of (read_file s).ending ≡ Hands r → rewritten s out ≡ nothing out
-  never_record r h = absurd (no_record (read_file s).ending r h)
+  refused f h = split (leb (length s) (length out)) (λ k. rw (k, h)) (λ k. rw k)
 
   -- one that is whole is written byte by byte, and the rest of the buffer stays.
   pub whole_again : (read_file s).ending ≡ whole → length s ≤ length out → rewritten s out ≡ record { length = length s; buffer = s ++ drop (length s) out }

@@ -5,27 +5,24 @@ ghost use Rattle.std.specs.Prelude.{◌≡◌, ◌++◌, ◌≤◌, length, drop
 ghost use Rattle.reader.specs.File.{whole, read_file};
 ghost use Rattle.rewriter.specs.Rewritten.{rewritten};
 
+use record::Refusal;
 
-// Puts every record of a whole file into a draft, with the file lent beside it, and closes it.
-fn put_all(s: &[u8], out: &mut [u8]) -> usize
+// Puts every record of a whole file into a draft, with the file lent beside it, and closes it: how many bytes that makes.
+fn put_all(s: &[u8], out: &mut [u8]) -> Result<usize, Refusal>
     requires { ((read_file s.now).ending ≡ whole) × (length s.now ≤ length out.old) }
-    ensures { (out.new ≡ s.now ++ drop (length s.now) out.old) × (result ≡ length s.now) }
+    ensures { (out.new ≡ s.now ++ drop (length s.now) out.old) × (result ≡ Ok (length s.now)) }
 {
     let mut from = reader::open(s);
     let mut told = draft::begin(out);
     loop {
         let step = reader::next(s, from);
-        match step.next {
-            Ok(Some(r)) => {
+        match step.next? {
+            Some(r) => {
                 told = draft::add(out, told, r, s);
                 from = step.state;
             }
-            Err(_) => {
-                return 0;
-            }
-            Ok(None) => {
-                let last = draft::finish(out, told);
-                return last.state.at;
+            None => {
+                return Ok(draft::finish(out, told).state.at);
             }
         }
     }
@@ -41,6 +38,6 @@ pub fn rewrite(s: &[u8], out: &mut [u8]) -> usize
     }
     match sheet::walk(s) {
         Err(_) => 0,
-        Ok(()) => put_all(s, out),
+        Ok(()) => put_all(s, out).unwrap_or(0),
     }
 }

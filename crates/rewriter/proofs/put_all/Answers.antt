@@ -1,5 +1,6 @@
 -- What is left to put is what the reader still hands out.
 use Prim.Native.Nat.{◌<◌}
+use Rattle.std.specs.Prelude.{Ok}
 use mathlib.Core.Path.{◌≡◌, refl, sym, ap, ◌∙◌}
 use native.Mathlib.Omega.{arith}
 use lib.ListN.{length}
@@ -10,28 +11,16 @@ use Rattle.writer.specs.Writer.{Left}
 use Rattle.rewriter.proofs.Along.{written, opened_all, puts_opened, puts_more, puts_refused, puts_end}
 use Rattle.rewriter.proofs.put_all.Goals as goal
 
-pub open-from-requires : goal.open-from-requires
-open-from-requires c = tt
-
-pub begin-told-requires : goal.begin-told-requires
-begin-told-requires c = tt
-
 pub loop-r-init : goal.loop-r-init
 loop-r-init c =
     (refl, puts_opened c.args.s.now c.args.out.now c.requires.0 c.requires.1 _ c.begin-told.ensures _ c.open-from.ensures)
-
-pub next-step-requires : goal.next-step-requires
-next-step-requires c = tt
-
-pub add-told-requires : goal.add-told-requires
-add-told-requires c = tt
 
 pub loop-r-smaller : goal.loop-r-smaller
 loop-r-smaller c =
     let s = c.args.s.now in
     let l = c.loop-r in
     let r = c.next-step in
-    let h = ap (λ (x : Turn). x.next) (sym r.ensures) ∙ ap said_next c.in-Record.is in
+    let h = ap (λ (x : Turn). x.next) (sym r.ensures) ∙ ap said_next (c.in_ok-r.was ∙ ap Ok c.in-Some.is) in
     let m : l.from.at < (next_record s l.from).state.at = moves s l.from _ h in
     let i : l.from.at < length s = was_inside s l.from _ h in
     let e : r.result.state.at ≡ (next_record s l.from).state.at = ap (λ (x : Turn). x.state.at) r.ensures in
@@ -43,27 +32,24 @@ loop-r-preserved c =
     let l = c.loop-r in
     let r = c.next-step in
     let w = c.add-told in
-    (w.auto.out ∙ l.invariant.0, puts_more s l.from l.out l.told.state _ l.invariant.1 _ (said r.result) r.ensures (ap said_next c.in-Record.is) _ w.ensures)
+    (w.auto.out ∙ l.invariant.0, puts_more s l.from l.out l.told.state _ l.invariant.1 _ (said r.result) r.ensures (ap said_next (c.in_ok-r.was ∙ ap Ok c.in-Some.is)) _ w.ensures)
 
-pub shape_of-out-in-Err : goal.shape_of-out-in-Err
-shape_of-out-in-Err c = c.loop-r.invariant.0 ∙ c.begin-told.auto.out
+pub shape_of-out-in_err-r : goal.shape_of-out-in_err-r
+shape_of-out-in_err-r c = c.loop-r.invariant.0 ∙ c.begin-told.auto.out
 
-pub returns-in-Err : goal.returns-in-Err
-returns-in-Err c =
+pub returns-in_err-r : goal.returns-in_err-r
+returns-in_err-r c =
     let l = c.loop-r in
-    puts_refused c.args.s.now l.from l.out l.told.state _ l.invariant.1 _ (ap (λ (x : Turn). x.next) (sym c.next-step.ensures) ∙ ap said_next c.in-Err.is)
+    puts_refused c.args.s.now l.from l.out l.told.state _ l.invariant.1 _ (ap (λ (x : Turn). x.next) (sym c.next-step.ensures) ∙ ap said_next c.in_err-r.was)
 
-pub finish-last-requires : goal.finish-last-requires
-finish-last-requires c = tt
+pub shape_of-out-in-None : goal.shape_of-out-in-None
+shape_of-out-in-None c = c.finish.auto.out ∙ c.loop-r.invariant.0 ∙ c.begin-told.auto.out
 
-pub shape_of-out-in-End : goal.shape_of-out-in-End
-shape_of-out-in-End c = c.finish-last.auto.out ∙ c.loop-r.invariant.0 ∙ c.begin-told.auto.out
-
-pub returns-in-End : goal.returns-in-End
-returns-in-End c =
+pub returns-in-None : goal.returns-in-None
+returns-in-None c =
     let l = c.loop-r in
-    let w = c.finish-last in
+    let w = c.finish in
     let e : record { put = w.result; buffer = w.new.out } ≡ written c.args.s.now c.args.out.now =
-    w.ensures ∙ puts_end c.args.s.now l.from l.out l.told.state _ l.invariant.1 (ap (λ (x : Turn). x.next) (sym c.next-step.ensures) ∙ ap said_next c.in-End.is)
+    w.ensures ∙ puts_end c.args.s.now l.from l.out l.told.state _ l.invariant.1 (ap (λ (x : Turn). x.next) (sym c.next-step.ensures) ∙ ap said_next (c.in_ok-r.was ∙ ap Ok c.in-None.is))
     ∙ opened_all c.args.s.now c.args.out.now c.requires.0 c.requires.1 _ c.begin-told.ensures in
-    (ap (λ (v : Left). v.buffer) e, ap (λ (v : Left). v.put.state.at) e)
+    (ap (λ (v : Left). v.buffer) e, ap (λ (v : Left). Ok v.put.state.at) e)
