@@ -4,5 +4,6 @@ pub mod Alike
 pub mod Scan
 pub mod Back
 pub mod Bridge
+pub mod Put
 pub mod Same
 pub mod Writing

@@ -146,11 +146,7 @@ fn copy(out: &mut [u8], days: &[u8; 366], n: usize)
     requires { (n ≤ length days.now) × (n ≤ 366) × (n ≤ length out.old) }
     ensures { out.new ≡ sets out.old 0 (take n days.now) }
 {
-    let mut i: usize = 0;
-    while i < n {
-        out[i] = days[i];
-        i += 1;
-    }
+    out[..n].copy_from_slice(&days[..n]);
 }
 
 // The calendar begins as 366 days without a dose, and is then filled.

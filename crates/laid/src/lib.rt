@@ -141,12 +141,9 @@ fn copy(out: &mut [u8], at: usize, s: &[u8]) -> usize
     requires { at + length s.now ≤ length out.old }
     ensures { (out.new ≡ sets out.old at s.now) × (result ≡ at + length s.now) }
 {
-    let mut i: usize = 0;
-    while i < s.len() {
-        out[at + i] = s[i];
-        i += 1;
-    }
-    at + i
+    let end = at + s.len();
+    out[at..end].copy_from_slice(s);
+    end
 }
 
 // Puts a number's digits, from the last to the first.

@@ -35,11 +35,7 @@ fn clear(n: &mut [u64], from: usize, to: usize)
     requires { (from ≤ to) × (to ≤ length n.old) }
     ensures { n.new ≡ sets n.old from (replicate (to - from) 0) }
 {
-    let mut i = from;
-    while i < to {
-        n[i] = 0;
-        i += 1;
-    }
+    n[from..to].fill(0);
 }
 
 // Puts numbers, as those of a code, from a place on.
@@ -47,11 +43,7 @@ fn put(n: &mut [u64], at: usize, s: &[u64])
     requires { at + length s.now ≤ length n.old }
     ensures { n.new ≡ sets n.old at s.now }
 {
-    let mut i: usize = 0;
-    while i < s.len() {
-        n[at + i] = s[i];
-        i += 1;
-    }
+    n[at..at + s.len()].copy_from_slice(s);
 }
 
 fn put_51(x: Record51, n: &mut [u64; RECORD])

@@ -37,11 +37,7 @@ put_next d s i h =
     let e : drop i s ≡ get_or s i 0 ∷ drop (i + 1) s = rw (add-one, drop-cons s i 0) in
     put d i (get_or s i 0) (drop (i + 1) s) ∙ ap (λ (t : List ℕ). sets d i t) (sym e)
 
-pub put_all : (d s : List ℕ) (i : ℕ) → length s ≤ 24 → i ≡ length s → sets d i (drop i s) ≡ sets (replicate 24 0) 0 s →
-    ◌≡◌ {A = Piece} (record { length = i; bytes = d }) (piece s)
-put_all d s i h e q =
-    let m : length s ≤ i = omega arith in
-    let z : drop i s ≡ [] = drop_of_length-le s m in
-    let f : d ≡ sets (replicate 24 0) 0 s = ap (λ (t : List ℕ). sets d i t) (sym z) ∙ q in
-    let g : d ≡ s ++ replicate (24 - length s) 0 = f ∙ ap (λ (p : Piece). p.bytes) (more_piece [] s (omega arith)) in
-    λ j. record { length = e j; bytes = g j }
+pub put_all : (d s : List ℕ) → length s ≤ 24 → d ≡ sets (replicate 24 0) 0 s → ◌≡◌ {A = Piece} (record { length = length s; bytes = d }) (piece s)
+put_all d s h q =
+    let g : d ≡ s ++ replicate (24 - length s) 0 = q ∙ ap (λ (p : Piece). p.bytes) (more_piece [] s (omega arith)) in
+    λ j. record { length = length s; bytes = g j }

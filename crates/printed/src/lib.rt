@@ -33,13 +33,10 @@ fn copied(s: &[u8]) -> Piece
     requires { length s.now ≤ 24 }
     ensures { result ≡ piece s.now }
 {
+    let length = s.len();
     let mut bytes = [0; 24];
-    let mut i = 0;
-    while i < s.len() {
-        bytes[i] = s[i];
-        i += 1;
-    }
-    Piece { length: i, bytes }
+    bytes[..length].copy_from_slice(s);
+    Piece { length, bytes }
 }
 
 // How many digits a number has.

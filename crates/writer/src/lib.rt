@@ -55,14 +55,7 @@ fn put_version(out: &mut [u8])
     requires { 8 ≤ length out.old }
     ensures { out.new ≡ sets out.old 0 (ended (bytes "JAHIS5")) }
 {
-    out[0] = b'J';
-    out[1] = b'A';
-    out[2] = b'H';
-    out[3] = b'I';
-    out[4] = b'S';
-    out[5] = b'5';
-    out[6] = b'\r';
-    out[7] = b'\n';
+    out[..8].copy_from_slice(b"JAHIS5\r\n");
 }
 
 // Puts a record, whose texts lie in the lent bytes, with arrays for its parts, which no call on the way has a copy of.

@@ -1,39 +1,11 @@
--- What is left to clear is the numbers from i on.
-use mathlib.Core.Path.{refl, ◌∙◌, sym}
-use native.Mathlib.Omega.{arith}
-use lib.ListN.{length-set}
-use Rattle.plain_record.proofs.Along.{clear_next, clear_end}
+-- The 0s are put in one piece.
+use Rattle.std.proofs.Common.{◌≡◌, ◌-◌, List, ℕ, length, replicate, ap, ◌∙◌, arith}
+use Rattle.std.proofs.lemmas.List.Edits.{sets}
+use Rattle.cells.proofs.Put.{part_put}
 use Rattle.plain_record.proofs.clear.Goals as goal
-
-pub loop-i-init : goal.loop-i-init
-loop-i-init c = (omega arith, refl, refl)
-
-pub offset_bounds-n-i : goal.offset_bounds-n-i
-offset_bounds-n-i c = omega arith
-
-pub bounds-n-i : goal.bounds-n-i
-bounds-n-i c = omega arith
-
-pub overflow_add-i : goal.overflow_add-i
-overflow_add-i c = omega arith
-
-pub loop-i-smaller : goal.loop-i-smaller
-loop-i-smaller c = omega arith
-
-pub loop-i-preserved : goal.loop-i-preserved
-loop-i-preserved c =
-    let a = c.args in
-    let l = c.loop-i in (
-      omega arith,
-      length-set l.n l.i 0 ∙ l.invariant.1,
-      clear_next l.n l.i a.to (omega arith) ∙ l.invariant.2,
-    )
-
-pub shape_of-n : goal.shape_of-n
-shape_of-n c = c.loop-i.invariant.1
 
 pub returns : goal.returns
 returns c =
     let a = c.args in
-    let l = c.loop-i in
-    sym (clear_end l.n l.i a.to (omega arith)) ∙ l.invariant.2
+    let k : length c.fill.new.self ≡ a.to - a.from = omega arith in
+    part_put a.from _ a.n.now _ (omega arith) k ∙ ap (λ (s : List ℕ). sets a.n.now a.from s) (c.fill.ensures.after (λ y e. e) ∙ ap (λ (j : ℕ). replicate j 0) {y = a.to - a.from} (omega arith))
