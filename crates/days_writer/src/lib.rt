@@ -33,12 +33,10 @@ fn next_day(mask: u32, d: u8) -> u8
     requires { (1 ≤ d) × (d ≤ 32) }
     ensures { First mask d result }
 {
-    let mut e = d;
-    while e < 32 {
+    for e in d..32 {
         if (mask >> (e - 1)) % 2 == 1 {
             return e;
         }
-        e += 1;
     }
     32
 }
@@ -46,13 +44,11 @@ fn next_day(mask: u32, d: u8) -> u8
 fn day_count(mask: u32) -> usize
     ensures { (result ≡ length (since mask 1)) × (result ≤ 31) }
 {
-    let mut n: usize = 0;
-    let mut e: u8 = 1;
-    while e < 32 {
+    let mut n = 0;
+    for e in 1u8..32 {
         if (mask >> (e - 1)) % 2 == 1 {
             n += 1;
         }
-        e += 1;
     }
     n
 }
@@ -90,10 +86,8 @@ fn put_code(out: &mut [u8], at: usize, month: u8, mask: u32, d: u8) -> u8
     out[at] = b'D';
     out[at + 1] = cells::letter(month);
     let mut e = d;
-    let mut i: usize = 0;
-    while i < 6 {
+    for i in 0..6 {
         e = put_day(out, at + 2 + i, mask, e);
-        i += 1;
     }
     e
 }
@@ -118,14 +112,10 @@ fn put_run(out: &mut [u8], issue: u8, days: DaySet)
     requires { (1 ≤ issue) × (issue ≤ 12) × (8 * length (run_of issue days.cells) ≤ length out.old) }
     ensures { out.new ≡ sets out.old 0 (bytes_of (run_of issue days.cells)) }
 {
-    let mut j: usize = 0;
-    let mut place: u8 = 0;
-    while place < 13 {
+    let mut j = 0;
+    for place in 0..13 {
         let m = month_at(issue, place);
-        let k = m as usize;
-        let mask = days.cells[k];
-        j = put_month(out, j, m, mask);
-        place += 1;
+        j = put_month(out, j, m, days.cells[m as usize]);
     }
 }
 
@@ -134,14 +124,10 @@ fn count_codes(issue: u8, days: DaySet) -> usize
     requires { (1 ≤ issue) × (issue ≤ 12) }
     ensures { (result ≡ length (run_of issue days.cells)) × (result ≤ 78) }
 {
-    let mut n: usize = 0;
-    let mut p: u8 = 0;
-    while p < 13 {
+    let mut n = 0;
+    for p in 0..13 {
         let m = month_at(issue, p);
-        let k = m as usize;
-        let mask = days.cells[k];
-        n += (day_count(mask) + 5) / 6;
-        p += 1;
+        n += (day_count(days.cells[m as usize]) + 5) / 6;
     }
     n
 }
@@ -150,12 +136,10 @@ fn count_codes(issue: u8, days: DaySet) -> usize
 fn no_such_day(days: DaySet) -> bool
     ensures { result ≡ no_such_day 0 days.cells }
 {
-    let mut m: usize = 0;
-    while m < 13 {
+    for m in 0..13 {
         if BEYOND[m] <= days.cells[m] {
             return true;
         }
-        m += 1;
     }
     false
 }
@@ -164,12 +148,10 @@ fn no_such_day(days: DaySet) -> bool
 fn empty_from(days: DaySet, from: usize) -> bool
     ensures { result ≡ empty (drop from days.cells) }
 {
-    let mut m = from;
-    while m < 13 {
+    for m in from..13 {
         if days.cells[m] != 0 {
             return false;
         }
-        m += 1;
     }
     true
 }
@@ -183,19 +165,13 @@ fn can_write(days: DaySet) -> bool
     if no_such_day(days) {
         return false;
     }
-    if days.cells[0] == 0 {
-        return true;
-    }
-    empty_from(days, 1)
+    (days.cells[0] == 0) || empty_from(days, 1)
 }
 
 fn not_written(number: u16) -> Result<usize, Fault>
     ensures { result ≡ Err (record { number = number; place = 0 }) }
 {
-    Err(Fault {
-        number: number,
-        place: 0,
-    })
+    Err(Fault { number, place: 0 })
 }
 
 // Writes the run for a set into the front of the buffer.

@@ -11,32 +11,11 @@ use Rattle.days_writer.proofs.count_codes.Goals as goal
 pub loop-p-init : goal.loop-p-init
 loop-p-init c = (omega arith, omega arith, omega arith)
 
-pub month_at-m-requires : goal.month_at-m-requires
-month_at-m-requires c = omega arith
-
-pub overflow_cast-k : goal.overflow_cast-k
-overflow_cast-k c = omega arith
-
-pub offset_bounds-days-k : goal.offset_bounds-days-k
-offset_bounds-days-k c = omega arith
-
-pub bounds-days-k : goal.bounds-days-k
-bounds-days-k c = omega arith
-
-pub day_count-requires : goal.day_count-requires
-day_count-requires c = tt
-
 pub overflow_add-n : goal.overflow_add-n
 overflow_add-n c = omega arith
 
 pub overflow_add-n-in-loop-p : goal.overflow_add-n-in-loop-p
 overflow_add-n-in-loop-p c = omega arith
-
-pub overflow_add-p : goal.overflow_add-p
-overflow_add-p c = omega arith
-
-pub loop-p-smaller : goal.loop-p-smaller
-loop-p-smaller c = omega arith
 
 pub loop-p-preserved : goal.loop-p-preserved
 loop-p-preserved c =

@@ -9,6 +9,3 @@ use Rattle.days_writer.proofs.empty_from.Given as goal
 abbrev pub invariant-loop-m : goal.invariant-loop-m
 invariant-loop-m l =
     empty (drop l.m l.days.cells) ≡ empty (drop l.from l.days.cells)
-
-abbrev pub decreases-loop-m : goal.decreases-loop-m
-decreases-loop-m l = 13 - l.m

@@ -9,18 +9,6 @@ use Rattle.days_writer.proofs.put_run.Goals as goal
 pub loop-place-init : goal.loop-place-init
 loop-place-init c = (omega arith, refl, omega arith, refl)
 
-pub month_at-m-requires : goal.month_at-m-requires
-month_at-m-requires c = omega arith
-
-pub overflow_cast-k : goal.overflow_cast-k
-overflow_cast-k c = omega arith
-
-pub offset_bounds-days-k : goal.offset_bounds-days-k
-offset_bounds-days-k c = omega arith
-
-pub bounds-days-k : goal.bounds-days-k
-bounds-days-k c = omega arith
-
 pub put_month-j-requires : goal.put_month-j-requires
 unfolding run_of
 put_month-j-requires c =
@@ -29,12 +17,6 @@ put_month-j-requires c =
     let m = c.month_at-m in
     let n = run_count a.issue l.place a.days.cells m.result (omega arith) m.ensures.0 in
     omega arith
-
-pub overflow_add-place : goal.overflow_add-place
-overflow_add-place c = omega arith
-
-pub loop-place-smaller : goal.loop-place-smaller
-loop-place-smaller c = omega arith
 
 pub loop-place-preserved : goal.loop-place-preserved
 loop-place-preserved c =
