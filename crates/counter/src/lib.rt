@@ -20,7 +20,7 @@ pub struct SupplementSerial(pub u16);
 fn one_more(last: u16, next: u16) -> bool
     ensures { result ≡ eqb (last + 1) next }
 {
-    (last as u32) + 1 == next as u32
+    u32::from(last) + 1 == u32::from(next)
 }
 
 impl RpNumber {
