@@ -11,6 +11,13 @@ ghost use Rattle.days_writer.specs.Code.Print.{month_at, in_sixes, run_of, bytes
 use cells::Fault;
 use days::DaySet;
 
+// An issue month.
+#[derive(Clone, Copy)]
+struct Month {
+    number: u8,
+    ghost in_year: { (1 ≤ number) × (number ≤ 12) },
+}
+
 // 2 to the number of days of every month, then of months 1 to 12: the first mask with a day that the month has not.
 const BEYOND: [u32; 13] = [
     0x8000_0000,
@@ -29,6 +36,7 @@ const BEYOND: [u32; 13] = [
 ];
 
 // The first day of a mask from day d on; 32 where there is none.
+// Kept: 32 is also the day after the last, from which a loop finds no more.
 fn next_day(mask: u32, d: u8) -> u8
     requires { (1 ≤ d) × (d ≤ 32) }
     ensures { First mask d result }
@@ -54,14 +62,14 @@ fn day_count(mask: u32) -> usize
 }
 
 // The month at a place of a run: every month first, then the issue month and those after it.
-fn month_at(issue: u8, p: u8) -> u8
-    requires { (1 ≤ issue) × (issue ≤ 12) × (p ≤ 12) }
-    ensures { (result ≡ month_at issue p) × (result ≤ 12) }
+fn month_at(issue: Month, p: u8) -> u8
+    requires { p ≤ 12 }
+    ensures { (result ≡ month_at issue.number p) × (result ≤ 12) }
 {
     if p == 0 {
         return 0;
     }
-    (issue + p + 10) % 12 + 1
+    (issue.number + p + 10) % 12 + 1
 }
 
 // The next day of a mask from d on in one column, or 0; the day to go on from.
@@ -99,6 +107,7 @@ fn put_month(out: &mut [u8], at: usize, month: u8, mask: u32) -> usize
 {
     let mut j = at;
     let mut d = next_day(mask, 1);
+    // Kept: a turn goes six days of the mask on, wherever they stand.
     while d < 32 {
         let e = put_code(out, j, month, mask, d);
         j += 8;
@@ -108,9 +117,9 @@ fn put_month(out: &mut [u8], at: usize, month: u8, mask: u32) -> usize
 }
 
 // The codes of all months, from the front of the buffer on.
-fn put_run(out: &mut [u8], issue: u8, days: DaySet)
-    requires { (1 ≤ issue) × (issue ≤ 12) × (8 * length (run_of issue days.cells) ≤ length out.old) }
-    ensures { out.new ≡ sets out.old 0 (bytes_of (run_of issue days.cells)) }
+fn put_run(out: &mut [u8], issue: Month, days: DaySet)
+    requires { 8 * length (run_of issue.number days.cells) ≤ length out.old }
+    ensures { out.new ≡ sets out.old 0 (bytes_of (run_of issue.number days.cells)) }
 {
     let mut j = 0;
     for place in 0..13 {
@@ -120,9 +129,8 @@ fn put_run(out: &mut [u8], issue: u8, days: DaySet)
 }
 
 // How many codes the run has.
-fn count_codes(issue: u8, days: DaySet) -> usize
-    requires { (1 ≤ issue) × (issue ≤ 12) }
-    ensures { (result ≡ length (run_of issue days.cells)) × (result ≤ 78) }
+fn count_codes(issue: Month, days: DaySet) -> usize
+    ensures { (result ≡ length (run_of issue.number days.cells)) × (result ≤ 78) }
 {
     let mut n = 0;
     for p in 0..13 {
@@ -184,6 +192,7 @@ pub fn write_run(issue: u8, days: DaySet, out: &mut [u8]) -> Result<usize, Fault
     if 12 < issue {
         return not_written(10);
     }
+    let issue = Month { number: issue };
     if can_write(days) {
         let n = count_codes(issue, days);
         if out.len() < 8 * n {

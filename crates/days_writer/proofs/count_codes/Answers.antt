@@ -22,7 +22,7 @@ loop-p-preserved c =
     let a = c.args in
     let l = c.loop-p in
     let m = c.month_at-m in
-    let n = run_count a.issue l.p a.days.cells m.result (omega arith) m.ensures.0 in
+    let n = run_count a.issue.number l.p a.days.cells m.result (omega arith) m.ensures.0 in
     let t = count m.result (days_in a.days.cells m.result) in
     (omega arith, omega arith, omega (arith, c.day_count.ensures.0))
 
@@ -31,4 +31,4 @@ unfolding run_of
 returns c =
     let a = c.args in
     let l = c.loop-p in
-    (omega (arith, ap length (run_end a.issue l.p (days_in a.days.cells) (omega arith))), omega arith)
+    (omega (arith, ap length (run_end a.issue.number l.p (days_in a.days.cells) (omega arith))), omega arith)

@@ -1,6 +1,6 @@
 -- The days counted and those left are all days of the mask.
 -- Assumes nothing.
-use Prim.Native.Nat.{◌+◌, ◌-◌, ◌≤◌}
+use Prim.Native.Nat.{◌+◌, ◌≤◌}
 use mathlib.Core.Path.{◌≡◌}
 use lib.ListN.{length}
 use Rattle.days_writer.specs.Code.Mask.{since}

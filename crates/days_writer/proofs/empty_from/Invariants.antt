@@ -1,6 +1,5 @@
 -- The cells passed hold no day: the test of the cells left is the test of all.
 -- Assumes nothing.
-use Prim.Native.Nat.{◌-◌}
 use mathlib.Core.Path.{◌≡◌}
 use lib.ListN.{drop}
 use Rattle.days_writer.specs.Set.{empty}

@@ -1,6 +1,6 @@
 -- The days passed are not in the mask: `since` is the same from the day that is looked at.
 -- Assumes nothing.
-use Prim.Native.Nat.{◌-◌, ◌≤◌}
+use Prim.Native.Nat.{◌≤◌}
 use mathlib.Core.Path.{◌≡◌}
 use Rattle.days_writer.specs.Code.Mask.{since}
 use Rattle.days_writer.proofs.next_day.Given as goal

@@ -1,6 +1,6 @@
 -- The cells passed hold only days of their months: the test of the cells left is the test of all.
 -- Assumes nothing.
-use Prim.Native.Nat.{◌-◌, ◌≤◌}
+use Prim.Native.Nat.{◌≤◌}
 use mathlib.Core.Path.{◌≡◌}
 use lib.ListN.{drop}
 use Rattle.days_writer.specs.Set.{no_such_day}
