@@ -1,4 +1,5 @@
 // RP number, drug serial and supplement serial: three separate counters, each a type of its own, so that none is compared with another.
+// Kept: one type over the three would be one to compare.
 #![tactic(auto)]
 
 ghost use Rattle.std.specs.Prelude.{◌≡◌, ◌+◌, eqb};

@@ -11,6 +11,7 @@ use cells::Fault;
 // A day, and the style that it is written in: era 0 is western style, 1 to 5 are the eras. The year is the western one.
 #[derive(Clone, Copy)]
 pub struct Date {
+    // Kept: an era is the digit that its fields begin with, and its number for C.
     pub era: u8,
     pub year: u16,
     pub month: u8,
@@ -98,6 +99,7 @@ pub fn leap(year: u16) -> bool
 }
 
 // The last day of a month; 0 where there is no such month.
+// Kept: no day is up to 0, so that no caller asks whether there is such a month.
 pub fn last_day(year: u16, month: u8) -> u8
     ensures { result ≡ last_day year month }
 {
@@ -152,6 +154,7 @@ fn day_number(year: u16, month: u8, day: u8) -> u32
 }
 
 // The era in force on a day; 0 where none is.
+// Kept: a table of the eras would be searched from its end, and the last era's end would stand beside it.
 fn in_force(year: u16, month: u8, day: u8) -> u8
     ensures { result ≡ in_force year month day }
 {

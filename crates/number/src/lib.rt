@@ -108,6 +108,7 @@ pub fn read(s: &[u8], lo: u16, hi: u16) -> Result<u64, Fault>
 fn point(s: &[u8]) -> usize
     ensures { result ≡ length (before s.now) }
 {
+    // Kept: with std's `position` no search found the place of the rule.
     for (i, &c) in s.iter().enumerate() {
         if c == b'.' {
             return i;

@@ -9,6 +9,7 @@ use days::Last;
 use supplement::Supplement;
 
 // The letter of the last supplement, 0 where there is none yet; of a date code its month, its last day, and whether it has six days.
+// Kept: a reader's state is these numbers for C, which are all 0 before the first supplement.
 #[derive(Clone, Copy)]
 pub struct Schedule {
     pub letter: u8,

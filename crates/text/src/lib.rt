@@ -65,6 +65,7 @@ fn at_second(s: &[u8], at: usize, a: u8) -> bool
     ensures { result ≡ rest false (led (drop at s.now) a) }
 {
     let mut first = a;
+    // Kept: a turn takes two bytes, and may end between them.
     let mut i = at;
     while i < s.len() {
         let b = s[i];
