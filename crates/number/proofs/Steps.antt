@@ -13,7 +13,7 @@ use Rattle.number.specs.Number.{figure, figures, value}
 use Rattle.number.specs.Amount.{before}
 use Rattle.number.proofs.Sizes.{figures_parts}
 use Rattle.cells.proofs.Split.{split}
-use Rattle.std.proofs.Common.{Bool, IsTrue, ◌↔◌, All, eqb, sym, refl, true≢false}
+use Rattle.std.proofs.Common.{Bool, IsTrue, ◌↔◌, All, sym, refl, true≢false}
 use Rattle.std.specs.Char.{is_ascii_digit}
 use Rattle.std.proofs.lemmas.List.Elements.{All-nil, All-cons}
 
