@@ -1,4 +1,5 @@
 // RP number, drug serial and supplement serial: three separate counters, each a type of its own, so that none is compared with another.
+// Kept: one type over the three would be one to compare.
 #![tactic(auto)]
 
 ghost use Rattle.std.specs.Prelude.{◌≡◌, ◌+◌, eqb};
@@ -20,7 +21,7 @@ pub struct SupplementSerial(pub u16);
 fn one_more(last: u16, next: u16) -> bool
     ensures { result ≡ eqb (last + 1) next }
 {
-    (last as u32) + 1 == next as u32
+    u32::from(last) + 1 == u32::from(next)
 }
 
 impl RpNumber {

@@ -1,6 +1,6 @@
 -- The field that a date is written as. "YYYYMMDD from 1868 to 2099, or era, two-digit year 01 to 99, MMDD."
 -- Assumes nothing.
-use Rattle.std.specs.Prelude.{ℕ, ◌+◌, ◌-◌, ◌/◌, ◌%◌, cond, List, [], ◌∷◌, ◌++◌, eqb, length, replicate}
+use Rattle.std.specs.Prelude.{ℕ, ◌+◌, ◌-◌, ◌/◌, ◌%◌, cond, List, [], ◌∷◌, ◌++◌, eqb, length, replicate, Option, Some, None}
 use Rattle.date.specs.Date.{era_adds, is_date}
 use Rattle.date.specs.declared.Date.{Date}
 use Rattle.date.specs.declared.Text.{Text}
@@ -28,3 +28,7 @@ print_date t = cond (is_date t) (cond (eqb t.era 0) (in_western t) (in_era t)) [
 -- A field of at most eight characters by value: how many they are, they, and 0 bytes after them.
 abbrev pub text : List ℕ → Text
 text s = record { length = length s; bytes = s ++ replicate (8 - length s) 0 }
+
+-- The field as an answer: none, where nothing is written.
+abbrev pub printed : List ℕ → Option Text
+printed s = cond (eqb (length s) 0) None (Some (text s))

@@ -2,27 +2,34 @@
 #![tactic(auto)]
 
 ghost use Rattle.std.specs.Prelude.{◌≡◌, true, ◌+◌, ◌≤◌, length};
-ghost use Rattle.number.specs.Number.{none as no_day, figures as figures_of};
+ghost use Rattle.number.specs.Number.{figures as figures_of};
 ghost use Rattle.date.specs.Date.{leap as leap_of, last_day, exists as exists_of, era_adds, day_number, in_force, in_style, in_its_era, is_date, said, held as held_of, two as two_of, read_date, make_western, make_era, make_date};
-ghost use Rattle.date.specs.Print.{figure as figure_of, in_western, in_era, print_date, text};
+ghost use Rattle.date.specs.Print.{figure as figure_of, in_western, in_era, print_date, text, printed};
 
 use cells::Fault;
 
 // A day, and the style that it is written in: era 0 is western style, 1 to 5 are the eras. The year is the western one.
 #[derive(Clone, Copy)]
 pub struct Date {
+    // Kept: an era is the digit that its fields begin with, and its number for C.
     pub era: u8,
     pub year: u16,
     pub month: u8,
     pub day: u8,
 }
 
-// A date's characters, and 0 bytes after them; the length is 0 where the date is none.
+// A date's characters, and 0 bytes after them.
 #[derive(Clone, Copy)]
 pub struct Text {
     pub length: u8,
     pub bytes: [u8; 8],
 }
+
+// No such day or year.
+const NONE: Fault = Fault {
+    number: 27,
+    place: 0,
+};
 
 // The last day of months 1 to 12 in a year that is no leap year.
 const LAST_DAYS: [u8; 13] = [0, 31, 28, 31, 30, 31, 30, 31, 31, 30, 31, 30, 31];
@@ -92,6 +99,7 @@ pub fn leap(year: u16) -> bool
 }
 
 // The last day of a month; 0 where there is no such month.
+// Kept: no day is up to 0, so that no caller asks whether there is such a month.
 pub fn last_day(year: u16, month: u8) -> u8
     ensures { result ≡ last_day year month }
 {
@@ -142,10 +150,11 @@ fn in_style(t: Date) -> bool
 fn day_number(year: u16, month: u8, day: u8) -> u32
     ensures { result ≡ day_number year month day }
 {
-    (year as u32) * 10000 + (month as u32) * 100 + (day as u32)
+    u32::from(year) * 10000 + u32::from(month) * 100 + u32::from(day)
 }
 
 // The era in force on a day; 0 where none is.
+// Kept: a table of the eras would be searched from its end, and the last era's end would stand beside it.
 fn in_force(year: u16, month: u8, day: u8) -> u8
     ensures { result ≡ in_force year month day }
 {
@@ -194,23 +203,10 @@ fn is_date(t: Date) -> bool
     false
 }
 
-// No such day or year: 27.
-fn none() -> Result<Date, Fault>
-    ensures { said result ≡ no_day }
-{
-    Err(Fault {
-        number: 27,
-        place: 0,
-    })
-}
-
 fn held(t: Date) -> Result<Date, Fault>
     ensures { said result ≡ held_of t }
 {
-    if is_date(t) {
-        return Ok(t);
-    }
-    none()
+    if is_date(t) { Ok(t) } else { Err(NONE) }
 }
 
 // The number of two digits.
@@ -221,12 +217,6 @@ fn two(s: &[u8], at: usize) -> u8
     (s[at] - b'0') * 10 + (s[at + 1] - b'0')
 }
 
-fn wide(n: u8) -> u16
-    ensures { result ≡ n }
-{
-    n as u16
-}
-
 // Eight digits, YYYYMMDD.
 fn read_western(s: &[u8]) -> Result<Date, Fault>
     requires { (figures_of s.now ≡ true) × (length s.now ≡ 8) }
@@ -234,7 +224,7 @@ fn read_western(s: &[u8]) -> Result<Date, Fault>
 {
     held(Date {
         era: 0,
-        year: wide(two(s, 0)) * 100 + wide(two(s, 2)),
+        year: u16::from(two(s, 0)) * 100 + u16::from(two(s, 2)),
         month: two(s, 4),
         day: two(s, 6),
     })
@@ -247,11 +237,11 @@ fn read_era(s: &[u8]) -> Result<Date, Fault>
 {
     let era = s[0] - b'0';
     if era == 0 {
-        return none();
+        return Err(NONE);
     }
     held(Date {
         era,
-        year: era_adds(era) + wide(two(s, 1)),
+        year: era_adds(era) + u16::from(two(s, 1)),
         month: two(s, 3),
         day: two(s, 5),
     })
@@ -262,15 +252,13 @@ pub fn read(s: &[u8]) -> Result<Date, Fault>
     ensures { said result ≡ read_date s.now }
 {
     if !number::figures(s) {
-        return none();
+        return Err(NONE);
     }
-    if s.len() == 8 {
-        return read_western(s);
+    match s.len() {
+        8 => read_western(s),
+        7 => read_era(s),
+        _ => Err(NONE),
     }
-    if s.len() == 7 {
-        return read_era(s);
-    }
-    none()
 }
 
 // The last digit of a number.
@@ -283,8 +271,8 @@ fn figure(n: u16) -> u8
 fn print_western(t: Date) -> Text
     ensures { result ≡ text (in_western t) }
 {
-    let month = wide(t.month);
-    let day = wide(t.day);
+    let month = u16::from(t.month);
+    let day = u16::from(t.day);
     Text {
         length: 8,
         bytes: [
@@ -305,12 +293,12 @@ fn print_era(t: Date) -> Text
     ensures { result ≡ text (in_era t) }
 {
     let year = t.year - era_adds(t.era);
-    let month = wide(t.month);
-    let day = wide(t.day);
+    let month = u16::from(t.month);
+    let day = u16::from(t.day);
     Text {
         length: 7,
         bytes: [
-            figure(wide(t.era)),
+            figure(u16::from(t.era)),
             figure(year / 10),
             figure(year),
             figure(month / 10),
@@ -323,17 +311,15 @@ fn print_era(t: Date) -> Text
 }
 
 // The field that a date is written as.
-pub fn print(t: Date) -> Text
-    ensures { result ≡ text (print_date t) }
+pub fn print(t: Date) -> Option<Text>
+    ensures { result ≡ printed (print_date t) }
 {
     if !is_date(t) {
-        return Text {
-            length: 0,
-            bytes: [0; 8],
-        };
+        return None;
     }
     if t.era == 0 {
-        return print_western(t);
+        Some(print_western(t))
+    } else {
+        Some(print_era(t))
     }
-    print_era(t)
 }

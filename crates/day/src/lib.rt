@@ -21,16 +21,15 @@ pub fn next(t: Day) -> Day
     let last = date::last_day(t.year, t.month);
     if t.day < last {
         return Day {
-            year: t.year,
-            month: t.month,
             day: t.day + 1,
+            ..t
         };
     }
     if t.month < 12 {
         return Day {
-            year: t.year,
             month: t.month + 1,
             day: 1,
+            ..t
         };
     }
     if t.year < 65535 {
@@ -47,7 +46,7 @@ pub fn next(t: Day) -> Day
 fn years_before(year: u16) -> u32
     ensures { (result ≡ years year) × (result ≤ 65536 * 366) }
 {
-    let y = year as u32;
+    let y = u32::from(year);
     y * 365 + (y + 3) / 4 + (y + 399) / 400 - (y + 99) / 100
 }
 
@@ -56,16 +55,14 @@ fn months_before(year: u16, month: u8) -> u16
     ensures { (result ≡ months year month) × (result ≤ 366) }
 {
     if 12 < month {
-        if date::leap(year) {
-            return 366;
-        }
-        return 365;
+        return if date::leap(year) { 366 } else { 365 };
     }
     let days = BEFORE[month as usize];
     if (2 < month) & date::leap(year) {
-        return days + 1;
+        days + 1
+    } else {
+        days
     }
-    days
 }
 
 // The number of a day, counted on from the first day of year 0.
@@ -74,19 +71,14 @@ fn count(t: Day) -> u32
 {
     let y = years_before(t.year);
     let m = months_before(t.year, t.month);
-    y + (m as u32) + (t.day as u32)
+    y + u32::from(m) + u32::from(t.day)
 }
 
 // How many days after one another comes; 0 where it comes before it.
 pub fn between(a: Day, b: Day) -> u32
     ensures { result ≡ between_of a b }
 {
-    let from = count(a);
-    let to = count(b);
-    if to < from {
-        return 0;
-    }
-    to - from
+    count(b).saturating_sub(count(a))
 }
 
 // Sunday is 0.

@@ -1,14 +1,18 @@
 -- The theorems of reading: every beginning of an allowed run is allowed, and a run has one answer.
 -- Assumes nothing.
-use Prim.Native.Nat.{ℕ, ◌≤◌}
-use mathlib.Core.Path.{◌≡◌, refl, sym, ◌∙◌}
+use Prim.Native.Nat.{ℕ, ◌%◌, ◌≤◌}
+use mathlib.Core.Path.{◌≡◌, refl, sym, ap, ◌∙◌}
 use mathlib.Core.Bool.{true}
 use mathlib.Core.List.{List, [], ◌∷◌, ◌++◌}
 use native.Mathlib.Omega.{arith}
+use lib.Dec.{eqb}
 use lib.ListN.{length}
+use Rattle.std.specs.Prelude.{Result}
+use Rattle.cells.proofs.Split.{split}
 use Rattle.cells.proofs.Alike.{and_left, and_right}
-use Rattle.days.specs.Run.{Code, follows, allowed, read_run}
-use Rattle.days.specs.declared.Run.{Run}
+use Rattle.days.specs.Run.{Code, follows, allowed, Stop, stop, codes_of, set_of, concluded, a_month, answers_in, read_run, answered, told_run}
+use Rattle.days.specs.declared.DaySet.{DaySet}
+use Rattle.days.specs.declared.Halt.{Halt}
 use Rattle.days.proofs.Under.{and_intro}
 
 -- every beginning of an allowed run is an allowed run
@@ -20,6 +24,21 @@ beginning issue (a ∷ b ∷ xs) ys h n =
     and_intro (follows issue a b) (allowed issue (b ∷ xs)) (and_left (follows issue a b) _ h)
     (beginning issue (b ∷ xs) ys (and_right (follows issue a b) _ h) (omega arith))
 
+-- an answer says the run
+concludes : (t : Stop) (cells : List ℕ) → told_run (answered (concluded t cells)) ≡ concluded t cells
+concludes t cells = split (eqb t.number 0) (λ e. simp e) (λ e. simp (e, e))
+
+pub told : (issue : ℕ) (s : List ℕ) (r : Result DaySet Halt) → r ≡ answered (read_run issue s) → told_run r ≡ read_run issue s
+unfolding read_run
+told issue s r e =
+    ap told_run e ∙
+    split (a_month issue)
+    (λ m.
+    split (eqb (length s % 8) 0)
+    (λ w. split (eqb (length s) 0) (λ n. simp (m, w, n)) (λ n. simp (m, w, n) (concludes (stop issue [] 1 (answers_in s)) (set_of (codes_of (answers_in s))))))
+    (λ w. simp (m, w)))
+    (λ m. simp m)
+
 -- two answers to reading are equal: each is what `read_run` says
-pub one_answer : (issue : ℕ) (s : List ℕ) (r q : Run) → r ≡ read_run issue s → q ≡ read_run issue s → r ≡ q
+pub one_answer : (issue : ℕ) (s : List ℕ) (r q : Result DaySet Halt) → r ≡ answered (read_run issue s) → q ≡ answered (read_run issue s) → r ≡ q
 one_answer issue s r q e f = e ∙ sym f

@@ -6,3 +6,4 @@ pub mod Text
 pub mod Month
 pub mod Laws
 pub mod Walk
+pub mod Ends

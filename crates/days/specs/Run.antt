@@ -1,10 +1,12 @@
 -- Document 01, "Date runs", and the set of days that a run names.
 -- Assumes nothing.
-use Rattle.std.specs.Prelude.{ℕ, zero, suc, ◌+◌, ◌-◌, ◌/◌, ◌%◌, ◌^◌, Bool, true, false, cond, ◌&&◌, List, [], ◌∷◌, ◌++◌, map, eqb, leb, ltb, length, get_or, take, drop}
+use Rattle.std.specs.Prelude.{ℕ, zero, suc, ◌+◌, ◌-◌, ◌/◌, ◌%◌, ◌^◌, Bool, true, false, cond, ◌&&◌, List, [], ◌∷◌, ◌++◌, map, eqb, leb, ltb, length, get_or, take, drop, Result, Ok, Err}
 use Rattle.cells.specs.Test.{Answer, took, refused}
 use Rattle.supplement.specs.Supplement.{read_supplement}
 use Rattle.supplement.specs.declared.Supplement.{Supplement}
-use Rattle.days.specs.declared.Run.{Run}
+use Rattle.days.specs.declared.DaySet.{DaySet}
+use Rattle.days.specs.declared.Halt.{Halt}
+use Rattle.days.specs.declared.Last.{Last}
 
 -- A D code: its month, 0 for every month, and its days.
 pub record Code : Type 0 where
@@ -36,6 +38,16 @@ unfoldable pub follows : ℕ → Code → Code → Bool
 follows issue a b =
     cond (eqb a.month b.month) (eqb (length a.days) 6 && ltb (last_of a.days) (get_or b.days 0 0))
     (ltb 0 a.month && (ltb 0 b.month && ltb (distance issue a.month) (distance issue b.month)))
+
+-- What a code of a month and days is followed by,
+abbrev pub last_date : ℕ → List ℕ → Last
+last_date m ds = record { month = m; day = last_of ds; full = eqb (length ds) 6 }
+
+-- and that one of a month and a first day may stand just after it: `follows`, by no more of both codes than it needs.
+unfoldable pub goes_on : ℕ → Last → ℕ → ℕ → Bool
+goes_on issue a month first =
+    cond (eqb a.month month) (a.full && ltb a.day first)
+    (ltb 0 a.month && (ltb 0 month && ltb (distance issue a.month) (distance issue month)))
 
 -- "A run is one or more D codes": each but the first may stand just after the one before it.
 unfoldable pub allowed : ℕ → List Code → Bool
@@ -95,6 +107,13 @@ set_of cs = map (λ m. mask_of (days_at m cs)) thirteen
 abbrev pub no_days : List ℕ
 no_days = 0 ∷ 0 ∷ 0 ∷ 0 ∷ 0 ∷ 0 ∷ 0 ∷ 0 ∷ 0 ∷ 0 ∷ 0 ∷ 0 ∷ 0 ∷ []
 
+-- What a run is read as: the number 0 and the days that it names; or what stops it, and no days.
+pub record Run : Type 0 where
+  pub number : ℕ
+  pub place : ℕ
+  pub code : ℕ
+  pub days : DaySet
+
 -- The answers to a run: a set of days, or what stops it and no days.
 abbrev pub takes : List ℕ → Run
 takes cells = record { number = 0; place = 0; code = 0; days = record { cells = cells } }
@@ -123,3 +142,12 @@ read_run issue s =
     (cond (eqb (length s) 0) (refuses (stopped 12 0 0)) (concluded (stop issue [] 1 (answers_in s)) (set_of (codes_of (answers_in s)))))
     (refuses (stopped 1 0 0)))
     (refuses (stopped 10 0 0))
+
+-- The answer that says it: the set where nothing stops the run, else what stops it.
+abbrev pub answered : Run → Result DaySet Halt
+answered r = cond (eqb r.number 0) (Ok r.days) (Err (record { number = r.number; place = r.place; code = r.code }))
+
+-- What an answer says (`Rattle.days.proofs.Laws.told`).
+abbrev pub told_run : Result DaySet Halt → Run
+told_run (Ok d) = takes d.cells
+told_run (Err h) = refuses (stopped h.number h.place h.code)

@@ -3,9 +3,9 @@
 
 ghost use Rattle.std.specs.Prelude.{◌≡◌, [], ◌+◌, ◌%◌, ◌^◌, ◌≤◌, ◌<◌, length, get_or, take, drop, set};
 ghost use Rattle.supplement.specs.Supplement.{read_supplement, said as said_of};
-ghost use Rattle.days.specs.Run.{distance as distance_of, stop, stopped, answers_in, codes_of, set_of, refuses, concluded, read_run};
+ghost use Rattle.days.specs.Run.{distance as distance_of, mask_of as mask_of_days, last_date, goes_on as goes_on_of, stop, answers_in, codes_of, set_of, concluded, read_run, answered};
 ghost use Rattle.days.specs.Code.Good.{code, Good};
-ghost use Rattle.days.specs.Code.Walk.{six_of, Told, HasText, Dated, may_follow, halt_at, no_date as no_date_of};
+ghost use Rattle.days.specs.Code.Walk.{columns, six_of, Told, HasText, Dated, may_follow, step_at};
 
 use cells::Fault;
 use supplement::{Days, Supplement};
@@ -16,106 +16,119 @@ pub struct DaySet {
     pub cells: [u32; 13],
 }
 
-// The number is 0, and the days are those of the run; or a number of document 01 with its place, and for a code's own refusal the
-// code's number (else 0), and no days.
+// What stops a run: a number of document 01 with its place, and for a code's own refusal the code's number, else 0.
 #[derive(Clone, Copy)]
-pub struct Run {
+pub struct Halt {
     pub number: u16,
     pub place: usize,
     pub code: usize,
-    pub days: DaySet,
 }
 
-// A code of a run as numbers. `refusal` and `place` are the code's own, 0 where it reads; `count` is the number of its days, 0 where it is
-// no D code or where no code stands.
+// What a date code is followed by: its month, 0 for every month, its last day, and whether it has six days.
+#[derive(Clone, Copy)]
+pub struct Last {
+    pub month: u8,
+    pub day: u8,
+    pub full: bool,
+}
+
+// A D code as numbers.
 #[derive(Clone, Copy)]
 struct Date {
-    refusal: u16,
-    place: usize,
-    month: u8,
-    count: usize,
+    ends: Last,
     first: u8,
-    last: u8,
     mask: u32,
 }
 
-// What stops a run at a code; the number 0 says that nothing does.
-#[derive(Clone, Copy)]
-struct Halt {
-    number: u16,
-    place: usize,
-    code: usize,
+// How many months a month is ahead of the issue month.
+pub fn distance(issue: u8, m: u8) -> u16
+    ensures { result ≡ distance_of issue m }
+{
+    (u16::from(m) + 12).saturating_sub(u16::from(issue)) % 12
 }
 
-fn no_date(refusal: u16, place: usize) -> Date
-    ensures { result ≡ no_date_of refusal place }
+fn six(days: Days) -> [u8; 6]
+    ensures { result ≡ columns days }
 {
-    Date {
-        refusal: refusal,
-        place: place,
-        month: 0,
-        count: 0,
-        first: 0,
-        last: 0,
-        mask: 0,
+    [days.d1, days.d2, days.d3, days.d4, days.d5, days.d6]
+}
+
+impl Last {
+    // A code's days end at its first 0.
+    pub fn of(month: u8, days: Days) -> Last
+        ensures { result ≡ last_date month (six_of days) }
+    {
+        let mut day = 0;
+        for d in six(days) {
+            if d == 0 {
+                return Last {
+                    month,
+                    day,
+                    full: false,
+                };
+            }
+            day = d;
+        }
+        Last {
+            month,
+            day,
+            full: true,
+        }
+    }
+
+    // May a date code of a month and a first day stand just after this one?
+    pub fn goes_on(self, issue: u8, month: u8, first: u8) -> bool
+        ensures { result ≡ goes_on_of issue self month first }
+    {
+        if self.month == month {
+            return self.full & (self.day < first);
+        }
+        (0 < self.month) & ((0 < month) & (distance(issue, self.month) < distance(issue, month)))
     }
 }
 
-// A D code as numbers: its days end at its first 0.
+fn mask_of(month: u8, days: Days) -> u32
+    requires { Good (code month (six_of days)) }
+    ensures { result ≡ mask_of_days (six_of days) }
+{
+    let mut mask: u32 = 0;
+    for d in six(days) {
+        if d == 0 {
+            return mask;
+        }
+        mask += 1 << (d - 1);
+    }
+    mask
+}
+
 fn date_of(month: u8, days: Days) -> Date
     requires { Good (code month (six_of days)) }
     ensures { Told (code month (six_of days)) result }
 {
-    let six = [days.d1, days.d2, days.d3, days.d4, days.d5, days.d6];
-    let mut mask: u32 = 0;
-    let mut last: u8 = 0;
-    let mut k: usize = 0;
-    while k < 6 {
-        let d = six[k];
-        if d == 0 {
-            return Date {
-                refusal: 0,
-                place: 0,
-                month: month,
-                count: k,
-                first: days.d1,
-                last: last,
-                mask: mask,
-            };
-        }
-        mask += 1 << (d - 1);
-        last = d;
-        k += 1;
-    }
     Date {
-        refusal: 0,
-        place: 0,
-        month: month,
-        count: k,
+        ends: Last::of(month, days),
         first: days.d1,
-        last: last,
-        mask: mask,
+        mask: mask_of(month, days),
     }
 }
 
-fn date_in(r: Result<Supplement, Fault>) -> Date
+// A code as a D code, where it is one.
+fn date_in(r: Result<Supplement, Fault>) -> Result<Option<Date>, Fault>
     requires { HasText r }
     ensures { Dated (said_of r) result }
 {
     match r {
-        Err(f) => no_date(f.number, f.place),
-        Ok(x) => {
-            if x.letter == b'D' {
-                let days = x.days;
-                return date_of(x.month, days);
-            }
-            no_date(0, 0)
-        }
+        Err(f) => Err(f),
+        Ok(x) => if x.letter == b'D' {
+            Ok(Some(date_of(x.month, x.days)))
+        } else {
+            Ok(None)
+        },
     }
 }
 
 // The code at an offset.
-fn code_at(s: &[u8], at: usize) -> Date
+fn code_at(s: &[u8], at: usize) -> Result<Option<Date>, Fault>
     requires { at + 8 ≤ length s.now }
     ensures { Dated (read_supplement (take 8 (drop at s.now))) result }
 {
@@ -123,62 +136,45 @@ fn code_at(s: &[u8], at: usize) -> Date
     date_in(supplement::read(&s[at..end]))
 }
 
-// How many months a month is ahead of the issue month.
-fn distance(issue: u8, m: u8) -> u8
-    requires { (1 ≤ issue) × (issue ≤ 12) × (m ≤ 12) }
-    ensures { result ≡ distance_of issue m }
-{
-    (m + 12 - issue) % 12
-}
-
 // May b stand just after a, or first where there is no a?
-fn may_follow(issue: u8, a: Date, b: Date) -> bool
-    requires { (1 ≤ issue) × (issue ≤ 12) × (a.month ≤ 12) × (b.month ≤ 12) }
+fn may_follow(issue: u8, a: Option<Date>, b: Date) -> bool
     ensures { result ≡ may_follow issue a b }
 {
-    if a.count == 0 {
-        return true;
+    match a {
+        None => true,
+        Some(a) => a.ends.goes_on(issue, b.ends.month, b.first),
     }
-    if a.month == b.month {
-        if a.count == 6 {
-            return a.last < b.first;
-        }
-        return false;
-    }
-    if a.month == 0 {
-        return false;
-    }
-    if b.month == 0 {
-        return false;
-    }
-    distance(issue, a.month) < distance(issue, b.month)
 }
 
-// What stops a run at its kth code d, after the code a.
-fn halt_at(issue: u8, k: usize, a: Date, d: Date) -> Halt
-    requires { (1 ≤ issue) × (issue ≤ 12) × (a.month ≤ 12) × (d.month ≤ 12) }
-    ensures { result ≡ halt_at issue k a d }
+fn refuse(number: u16, place: usize, code: usize) -> Halt
+    ensures { result ≡ record { number = number; place = place; code = code } }
 {
-    if d.refusal != 0 {
-        return Halt {
-            number: d.refusal,
-            place: d.place,
-            code: k,
-        };
-    }
-    if d.count != 0 {
-        if may_follow(issue, a, d) {
-            return Halt {
-                number: 0,
-                place: 0,
-                code: 0,
-            };
-        }
-    }
     Halt {
-        number: 12,
-        place: k,
-        code: 0,
+        number,
+        place,
+        code,
+    }
+}
+
+// The kth code of a run, after the code a, unless it stops the run.
+fn step_at(
+    issue: u8,
+    k: usize,
+    a: Option<Date>,
+    r: Result<Option<Date>, Fault>,
+) -> Result<Date, Halt>
+    ensures { result ≡ step_at issue k a r }
+{
+    match r {
+        Err(f) => Err(refuse(f.number, f.place, k)),
+        Ok(read) => match read {
+            Some(d) => if may_follow(issue, a, d) {
+                Ok(d)
+            } else {
+                Err(refuse(12, k, 0))
+            },
+            None => Err(refuse(12, k, 0)),
+        },
     }
 }
 
@@ -188,65 +184,41 @@ fn with_days(days: DaySet, month: u8, mask: u32) -> DaySet
     ensures { result.cells ≡ set days.cells month (get_or days.cells month 0 + mask) }
 {
     let mut d = days;
-    let m = month as usize;
+    let m = usize::from(month);
     d.cells[m] += mask;
     d
 }
 
-fn refuse(number: u16, place: usize, code: usize) -> Run
-    ensures { result ≡ refuses (stopped number place code) }
-{
-    Run {
-        number: number,
-        place: place,
-        code: code,
-        days: DaySet { cells: [0; 13] },
-    }
-}
-
 // Code by code, with the code before as numbers and the days so far.
-fn read_codes(issue: u8, s: &[u8]) -> Run
-    requires { (1 ≤ issue) × (issue ≤ 12) × (length s.now % 8 ≡ 0) }
-    ensures { result ≡ concluded (stop issue [] 1 (answers_in s.now)) (set_of (codes_of (answers_in s.now))) }
+fn read_codes(issue: u8, s: &[u8]) -> Result<DaySet, Halt>
+    requires { length s.now % 8 ≡ 0 }
+    ensures { result ≡ answered (concluded (stop issue [] 1 (answers_in s.now)) (set_of (codes_of (answers_in s.now)))) }
 {
     let mut days = DaySet { cells: [0; 13] };
-    let mut prior = no_date(0, 0);
-    let mut at: usize = 0;
-    let mut k: usize = 1;
-    while at < s.len() {
-        let d = code_at(s, at);
-        let h = halt_at(issue, k, prior, d);
-        if h.number != 0 {
-            return refuse(h.number, h.place, h.code);
-        }
-        days = with_days(days, d.month, d.mask);
-        prior = d;
-        at += 8;
-        k += 1;
+    let mut prior = None;
+    for k in 0..s.len() / 8 {
+        let d = step_at(issue, k + 1, prior, code_at(s, 8 * k))?;
+        days = with_days(days, d.ends.month, d.mask);
+        prior = Some(d);
     }
-    Run {
-        number: 0,
-        place: 0,
-        code: 0,
-        days: days,
-    }
+    Ok(days)
 }
 
 // Reads a run for an issue month.
-pub fn read_run(issue: u8, s: &[u8]) -> Run
-    ensures { result ≡ read_run issue s.now }
+pub fn read_run(issue: u8, s: &[u8]) -> Result<DaySet, Halt>
+    ensures { result ≡ answered (read_run issue s.now) }
 {
     if issue == 0 {
-        return refuse(10, 0, 0);
+        return Err(refuse(10, 0, 0));
     }
     if 12 < issue {
-        return refuse(10, 0, 0);
+        return Err(refuse(10, 0, 0));
     }
     if s.len() % 8 != 0 {
-        return refuse(1, 0, 0);
+        return Err(refuse(1, 0, 0));
     }
     if s.len() == 0 {
-        return refuse(12, 0, 0);
+        return Err(refuse(12, 0, 0));
     }
     read_codes(issue, s)
 }

@@ -16,7 +16,7 @@ use Rattle.cells.proofs.Alike.{and_left, and_right}
 use Rattle.supplement.specs.Supplement.{read_supplement}
 use Rattle.supplement.specs.declared.Supplement.{Supplement}
 use Rattle.days.specs.Run.{Code, code_of, allowed, eights, stopped, stop, codes_of, set_of, takes, a_month, answers_in, read_run}
-use Rattle.days.specs.declared.Run.{Run}
+use Rattle.days.specs.Run.{Run}
 use Rattle.days.specs.Code.Good.{Good, pad, code_bytes}
 use Rattle.days.proofs.Named.{Goods}
 use Rattle.days.proofs.Text.{date, refused_some}

@@ -11,6 +11,13 @@ ghost use Rattle.days_writer.specs.Code.Print.{month_at, in_sixes, run_of, bytes
 use cells::Fault;
 use days::DaySet;
 
+// An issue month.
+#[derive(Clone, Copy)]
+struct Month {
+    number: u8,
+    ghost in_year: { (1 ≤ number) × (number ≤ 12) },
+}
+
 // 2 to the number of days of every month, then of months 1 to 12: the first mask with a day that the month has not.
 const BEYOND: [u32; 13] = [
     0x8000_0000,
@@ -29,16 +36,15 @@ const BEYOND: [u32; 13] = [
 ];
 
 // The first day of a mask from day d on; 32 where there is none.
+// Kept: 32 is also the day after the last, from which a loop finds no more.
 fn next_day(mask: u32, d: u8) -> u8
     requires { (1 ≤ d) × (d ≤ 32) }
     ensures { First mask d result }
 {
-    let mut e = d;
-    while e < 32 {
+    for e in d..32 {
         if (mask >> (e - 1)) % 2 == 1 {
             return e;
         }
-        e += 1;
     }
     32
 }
@@ -46,26 +52,24 @@ fn next_day(mask: u32, d: u8) -> u8
 fn day_count(mask: u32) -> usize
     ensures { (result ≡ length (since mask 1)) × (result ≤ 31) }
 {
-    let mut n: usize = 0;
-    let mut e: u8 = 1;
-    while e < 32 {
+    let mut n = 0;
+    for e in 1u8..32 {
         if (mask >> (e - 1)) % 2 == 1 {
             n += 1;
         }
-        e += 1;
     }
     n
 }
 
 // The month at a place of a run: every month first, then the issue month and those after it.
-fn month_at(issue: u8, p: u8) -> u8
-    requires { (1 ≤ issue) × (issue ≤ 12) × (p ≤ 12) }
-    ensures { (result ≡ month_at issue p) × (result ≤ 12) }
+fn month_at(issue: Month, p: u8) -> u8
+    requires { p ≤ 12 }
+    ensures { (result ≡ month_at issue.number p) × (result ≤ 12) }
 {
     if p == 0 {
         return 0;
     }
-    (issue + p + 10) % 12 + 1
+    (issue.number + p + 10) % 12 + 1
 }
 
 // The next day of a mask from d on in one column, or 0; the day to go on from.
@@ -90,10 +94,8 @@ fn put_code(out: &mut [u8], at: usize, month: u8, mask: u32, d: u8) -> u8
     out[at] = b'D';
     out[at + 1] = cells::letter(month);
     let mut e = d;
-    let mut i: usize = 0;
-    while i < 6 {
+    for i in 0..6 {
         e = put_day(out, at + 2 + i, mask, e);
-        i += 1;
     }
     e
 }
@@ -105,6 +107,7 @@ fn put_month(out: &mut [u8], at: usize, month: u8, mask: u32) -> usize
 {
     let mut j = at;
     let mut d = next_day(mask, 1);
+    // Kept: a turn goes six days of the mask on, wherever they stand.
     while d < 32 {
         let e = put_code(out, j, month, mask, d);
         j += 8;
@@ -114,34 +117,25 @@ fn put_month(out: &mut [u8], at: usize, month: u8, mask: u32) -> usize
 }
 
 // The codes of all months, from the front of the buffer on.
-fn put_run(out: &mut [u8], issue: u8, days: DaySet)
-    requires { (1 ≤ issue) × (issue ≤ 12) × (8 * length (run_of issue days.cells) ≤ length out.old) }
-    ensures { out.new ≡ sets out.old 0 (bytes_of (run_of issue days.cells)) }
+fn put_run(out: &mut [u8], issue: Month, days: DaySet)
+    requires { 8 * length (run_of issue.number days.cells) ≤ length out.old }
+    ensures { out.new ≡ sets out.old 0 (bytes_of (run_of issue.number days.cells)) }
 {
-    let mut j: usize = 0;
-    let mut place: u8 = 0;
-    while place < 13 {
+    let mut j = 0;
+    for place in 0..13 {
         let m = month_at(issue, place);
-        let k = m as usize;
-        let mask = days.cells[k];
-        j = put_month(out, j, m, mask);
-        place += 1;
+        j = put_month(out, j, m, days.cells[m as usize]);
     }
 }
 
 // How many codes the run has.
-fn count_codes(issue: u8, days: DaySet) -> usize
-    requires { (1 ≤ issue) × (issue ≤ 12) }
-    ensures { (result ≡ length (run_of issue days.cells)) × (result ≤ 78) }
+fn count_codes(issue: Month, days: DaySet) -> usize
+    ensures { (result ≡ length (run_of issue.number days.cells)) × (result ≤ 78) }
 {
-    let mut n: usize = 0;
-    let mut p: u8 = 0;
-    while p < 13 {
+    let mut n = 0;
+    for p in 0..13 {
         let m = month_at(issue, p);
-        let k = m as usize;
-        let mask = days.cells[k];
-        n += (day_count(mask) + 5) / 6;
-        p += 1;
+        n += (day_count(days.cells[m as usize]) + 5) / 6;
     }
     n
 }
@@ -150,12 +144,10 @@ fn count_codes(issue: u8, days: DaySet) -> usize
 fn no_such_day(days: DaySet) -> bool
     ensures { result ≡ no_such_day 0 days.cells }
 {
-    let mut m: usize = 0;
-    while m < 13 {
+    for m in 0..13 {
         if BEYOND[m] <= days.cells[m] {
             return true;
         }
-        m += 1;
     }
     false
 }
@@ -164,12 +156,10 @@ fn no_such_day(days: DaySet) -> bool
 fn empty_from(days: DaySet, from: usize) -> bool
     ensures { result ≡ empty (drop from days.cells) }
 {
-    let mut m = from;
-    while m < 13 {
+    for m in from..13 {
         if days.cells[m] != 0 {
             return false;
         }
-        m += 1;
     }
     true
 }
@@ -183,19 +173,13 @@ fn can_write(days: DaySet) -> bool
     if no_such_day(days) {
         return false;
     }
-    if days.cells[0] == 0 {
-        return true;
-    }
-    empty_from(days, 1)
+    (days.cells[0] == 0) || empty_from(days, 1)
 }
 
 fn not_written(number: u16) -> Result<usize, Fault>
     ensures { result ≡ Err (record { number = number; place = 0 }) }
 {
-    Err(Fault {
-        number: number,
-        place: 0,
-    })
+    Err(Fault { number, place: 0 })
 }
 
 // Writes the run for a set into the front of the buffer.
@@ -208,6 +192,7 @@ pub fn write_run(issue: u8, days: DaySet, out: &mut [u8]) -> Result<usize, Fault
     if 12 < issue {
         return not_written(10);
     }
+    let issue = Month { number: issue };
     if can_write(days) {
         let n = count_codes(issue, days);
         if out.len() < 8 * n {

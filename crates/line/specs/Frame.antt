@@ -1,6 +1,6 @@
 -- Document 01, "The file": lines, each ended by CR LF, then one byte 1Ah.
 -- Assumes nothing.
-use Rattle.std.specs.Prelude.{ℕ, ◌+◌, ◌≤◌, ◌<◌, ◌≡◌, Bool, true, cond, not, ◌&&◌, List, [], ◌∷◌, ◌++◌, leb, eqb, length, take}
+use Rattle.std.specs.Prelude.{ℕ, ◌+◌, ◌≤◌, ◌<◌, ◌≡◌, Bool, true, cond, not, ◌&&◌, List, [], ◌∷◌, ◌++◌, leb, eqb, length, take, ⊤, Result, Ok, Err}
 use Rattle.cells.specs.Test.{fault}
 use Rattle.cells.specs.declared.Fault.{Fault}
 
@@ -66,3 +66,7 @@ frame_from state k (b ∷ s) = cond (eqb (next state b) wrong) (fault 21 k) (fra
 -- The fault of a file's frame: number 0 where it is well framed. `Rattle.line.proofs.Laws` says of both that they are what document 01 says.
 unfoldable pub frame_fault : List ℕ → Fault
 frame_fault s = frame_from 0 0 s
+
+-- The answer that a fault is: none where its number is 0.
+abbrev pub passes : Fault → Result ⊤ Fault
+passes f = cond (eqb f.number 0) (Ok tt) (Err f)

@@ -3,22 +3,21 @@
 
 ghost use Rattle.std.specs.Prelude.{◌≡◌, true};
 ghost use Rattle.cells.specs.Test.{fault};
-ghost use Rattle.line.specs.Frame.{plain as plain_of, in_line, next as next_of, frame_fault};
+ghost use Rattle.line.specs.Frame.{plain as plain_of, in_line, next as next_of, frame_fault, passes};
 ghost use Rattle.line.specs.Code.Pairs.{may_follow};
+ghost use Rattle.line.specs.Code.States.{number, reached};
 ghost use Rattle.line.specs.Fields.{ends as ends_of, field_end, fields_at, line_ends, nth};
 
 use cells::Fault;
 
-// What has been read of a file: a line or nothing, a line and its CR, lines with their CR LF, all, or what no file begins with.
-const LINE: u8 = 0;
-
-const RETURN: u8 = 1;
-
-const LINES: u8 = 2;
-
-const ALL: u8 = 3;
-
-const WRONG: u8 = 4;
+// What has been read of a file: a part of a line or nothing, a line and its CR, lines with their CR LF, all.
+#[derive(Clone, Copy)]
+enum State {
+    Line,
+    Return,
+    Lines,
+    All,
+}
 
 // A byte that may stand in a line.
 fn plain(b: u8) -> bool
@@ -28,38 +27,29 @@ fn plain(b: u8) -> bool
 }
 
 // After a byte of a line, or the CR at its end.
-fn in_line(b: u8) -> u8
-    ensures { result ≡ in_line b }
+fn in_line(b: u8) -> Option<State>
+    ensures { reached result ≡ in_line b }
 {
     if b == b'\r' {
-        return RETURN;
+        return Some(State::Return);
     }
-    if plain(b) {
-        return LINE;
-    }
-    WRONG
+    if plain(b) { Some(State::Line) } else { None }
 }
 
-// What has been read with one more byte.
-fn next(state: u8, b: u8) -> u8
-    ensures { result ≡ next_of state b }
+// What has been read with one more byte; none where no file begins with it.
+fn next(state: State, b: u8) -> Option<State>
+    ensures { reached result ≡ next_of (number state) b }
 {
-    if state == LINE {
-        return in_line(b);
+    match state {
+        State::Line => in_line(b),
+        State::Return => if b == b'\n' { Some(State::Lines) } else { None },
+        State::Lines => if b == 0x1a {
+            Some(State::All)
+        } else {
+            in_line(b)
+        },
+        State::All => None,
     }
-    if state == RETURN {
-        if b == b'\n' {
-            return LINES;
-        }
-        return WRONG;
-    }
-    if state == LINES {
-        if b == 0x1a {
-            return ALL;
-        }
-        return in_line(b);
-    }
-    WRONG
 }
 
 // May b stand right after a in a well framed file? An LF stands after each CR and nowhere else, 1Ah after an LF only, and nothing after 1Ah.
@@ -81,53 +71,40 @@ fn framed(s: &[u8]) -> bool
     }
     let last = s.len() - 1;
     let mut ok = (plain(s[0]) | (s[0] == b'\r')) & (s[last] == 0x1a);
-    let mut i = 0;
-    while i < last {
-        ok = ok & may_follow(s[i], s[i + 1]);
-        i += 1;
+    for i in 0..last {
+        ok &= may_follow(s[i], s[i + 1]);
     }
     ok
 }
 
-// The first byte that no well framed file has there: 21 at its offset, or at the end; 0 where the file is well framed.
-fn find_fault(s: &[u8]) -> Fault
-    ensures { result ≡ frame_fault s.now }
+// The first byte that no well framed file has there: 21 at its offset, or at the end.
+fn find_fault(s: &[u8]) -> Result<(), Fault>
+    ensures { result ≡ passes (frame_fault s.now) }
 {
-    let mut state = LINE;
-    let mut i: usize = 0;
-    while i < s.len() {
-        state = next(state, s[i]);
-        if state == WRONG {
-            return Fault {
+    let mut state = State::Line;
+    for (i, &b) in s.iter().enumerate() {
+        let Some(more) = next(state, b) else {
+            return Err(Fault {
                 number: 21,
                 place: i,
-            };
-        }
-        i += 1;
-    }
-    if state == ALL {
-        return Fault {
-            number: 0,
-            place: 0,
+            });
         };
+        state = more;
     }
-    Fault {
-        number: 21,
-        place: i,
+    match state {
+        State::All => Ok(()),
+        _ => Err(Fault {
+            number: 21,
+            place: s.len(),
+        }),
     }
 }
 
 // The fault of a file's frame; only a file that has one is read for it byte by byte.
-pub fn frame_fault(s: &[u8]) -> Fault
-    ensures { result ≡ frame_fault s.now }
+pub fn frame_fault(s: &[u8]) -> Result<(), Fault>
+    ensures { result ≡ passes (frame_fault s.now) }
 {
-    if framed(s) {
-        return Fault {
-            number: 0,
-            place: 0,
-        };
-    }
-    find_fault(s)
+    if framed(s) { Ok(()) } else { find_fault(s) }
 }
 
 // The comma after a field, or the CR after the last.
@@ -144,17 +121,12 @@ fn ends(b: u8) -> bool
 pub fn field_end(s: &[u8], at: usize) -> usize
     ensures { result ≡ field_end s.now at }
 {
-    if s.len() < at {
-        return s.len();
-    }
-    let mut i = at;
-    while i < s.len() {
+    for i in at..s.len() {
         if ends(s[i]) {
             return i;
         }
-        i += 1;
     }
-    i
+    s.len()
 }
 
 // Does the last field of a line end at a place: at a CR, or at the end of the file? A comma stands after any other.
@@ -175,14 +147,12 @@ pub fn nth_field(s: &[u8], at: usize, n: usize) -> &[u8]
         return &s[0..0];
     }
     let mut from = at;
-    let mut k: usize = 1;
-    while k < n {
+    for _ in 1..n {
         let end = field_end(s, from);
         if line_ends(s, end) {
             return &s[0..0];
         }
         from = end + 1;
-        k += 1;
     }
     let to = field_end(s, from);
     &s[from..to]

@@ -12,6 +12,10 @@ use lib.Seq.{drop-cons}
 use Rattle.number.specs.Number.{figure, figures, value}
 use Rattle.number.specs.Amount.{before}
 use Rattle.number.proofs.Sizes.{figures_parts}
+use Rattle.cells.proofs.Split.{split}
+use Rattle.std.proofs.Common.{Bool, IsTrue, ◌↔◌, All, sym, refl, true≢false}
+use Rattle.std.specs.Char.{is_ascii_digit}
+use Rattle.std.proofs.lemmas.List.Elements.{All-nil, All-cons}
 
 module _ (s : List ℕ) (i : ℕ) where
   none : length s ≤ i → drop i s ≡ []
@@ -55,6 +59,20 @@ module _ (s : List ℕ) (i : ℕ) where
     pub point_more : (get_or s i 0 ≡ 46 → ⊥) → length (before (drop i s)) ≡ suc (length (before (drop (i + 1) s)))
     unfolding before
     point_more e = rw (more, ne_eqb _ _ e)
+
+-- what std's names say
+not_so : (r : Bool) → (r ≡ true → ⊥) → r ≡ false
+not_so true h = absurd (h refl)
+not_so false h = refl
+
+pub all_figures : (s : List ℕ) (r : Bool) → (IsTrue r ↔ All (λ c. IsTrue (is_ascii_digit c)) s) → r ≡ figures s
+unfolding figures figure
+all_figures [] true h = refl
+all_figures [] false h = absurd (true≢false (sym (h.1 (All-nil (λ c. IsTrue (is_ascii_digit c))))))
+all_figures (c ∷ s) r h =
+    split (is_ascii_digit c)
+    (λ e. rw e (all_figures s r (λ t k d l. h.0 t (suc k) d (omega arith), λ a. h.1 (All-cons (λ c. IsTrue (is_ascii_digit c)) c s e a))))
+    (λ e. rw e (not_so r (λ t. true≢false (sym (h.0 t 0 0 (omega arith)) ∙ e))))
 
 pub zeros_more : (n k : ℕ) → 0 < k → value n (replicate k 48) ≡ value (n * 10) (replicate (k - 1) 48)
 unfolding value

@@ -2,13 +2,14 @@
 -- Assumes nothing.
 use Prim.Native.Nat.{ℕ, suc, ◌+◌, ◌-◌, ◌*◌, ◌^◌, ◌<◌, ◌≤◌}
 use mathlib.Core.Path.{◌≡◌, refl, ◌∙◌, sym, ap}
-use mathlib.Core.Bool.{Bool, true, false, not, ◌&&◌, ◌||◌, and-false}
+use mathlib.Core.Bool.{Bool, true, false, not, ◌&&◌, ◌||◌, and-false, and-true, and_comm}
 use mathlib.Core.List.{List, [], ◌∷◌}
 use native.Mathlib.Omega.{arith}
-use borrow.Author.Tests.{le-leb, lt-leb, leb-true, ne_eqb, eqb-false, not-true}
-use lib.Dec.{leb, eqb}
+use borrow.Author.Tests.{eqb-true, ltb-true, le-leb, lt-leb, leb-true, ne_eqb, eqb-false, not-true}
+use lib.Dec.{leb, ltb, eqb}
 use lib.ListN.{length, get_or, take, drop, replicate, length-drop}
 use lib.Seq.{take_all, length-take-le}
+use Rattle.std.specs.Prelude.{Option, Some, None}
 use Rattle.cells.specs.Test.{took}
 use Rattle.cells.proofs.Alike.{and_parts}
 use Rattle.number.specs.Number.{figures, value, shortest, read_number, none}
@@ -41,6 +42,15 @@ module _ (s : List ℕ) where
   shortest_by : (length s ≡ 0 → ⊥) → (b : Bool) → led s ≡ b → shortest s ≡ figures s && not b
   shortest_by h b e = shortest_some h ∙ ap (λ (t : Bool). figures s && t) (not_led (eqb (length s) 1) (eqb (get_or s 0 0) 48) ∙ ap not e)
 
+  led_one : length s ≡ 1 → led s ≡ false
+  led_one e = rw (e, and-false (eqb (get_or s 0 0) 48))
+
+  pub shortest_one : length s ≡ 1 → shortest s ≡ figures s
+  shortest_one h = shortest_by (omega arith) false (led_one h) ∙ and-true (figures s)
+
+  pub shortest_more : 2 ≤ length s → shortest s ≡ not (eqb (get_or s 0 0) 48) && figures s
+  shortest_more h = shortest_some (omega arith) ∙ rw (ne_eqb (length s) 1 (omega arith)) (and_comm (figures s) (not (eqb (get_or s 0 0) 48)))
+
   pub shortest_figures : shortest s ≡ true → figures s ≡ true
   unfolding shortest
   shortest_figures h = (and_parts _ _ (and_parts (leb 1 (length s)) _ h).1).0
@@ -70,28 +80,50 @@ module _ (lo hi : ℕ) (s : List ℕ) where
   unfolding read_number within
   number_some h = rw h
 
-  pub number_empty : length s ≡ 0 → read_number lo hi s ≡ none
+  number_empty : length s ≡ 0 → read_number lo hi s ≡ none
   number_empty h = number_none (shortest_none s h)
 
   module _ (h : length s ≡ 0 → ⊥) where
     pub number_led : led s ≡ true → read_number lo hi s ≡ none
     number_led e = number_none (shortest_by s h true e ∙ and-false (figures s))
 
-    -- what is no digit is out of range
-    pub number_whole : hi < 65536 → led s ≡ false → read_number lo hi s ≡ within lo hi (whole_number s)
-    unfolding whole_number within
-    number_whole l e =
+    -- digits are tested for their range; what is no digit is no number
+    number_whole : led s ≡ false → figures s ≡ true → read_number lo hi s ≡ within lo hi (value 0 s)
+    number_whole e f = number_some (shortest_by s h false e ∙ rw f)
+
+    number_no_digit : led s ≡ false → figures s ≡ false → read_number lo hi s ≡ none
+    number_no_digit e f = number_none (shortest_by s h false e ∙ rw f)
+
+    pub whole_some : (n : ℕ) → whole_number s ≡ Some n → led s ≡ false → read_number lo hi s ≡ within lo hi n
+    unfolding whole_number
+    whole_some n w e =
         split (figures s)
-        (λ f. rw f (number_some (shortest_by s h false e ∙ rw f)))
-        (λ f. rw (f, lt-leb 100000 hi (omega arith), and-false (leb lo 100000)) (number_none (shortest_by s h false e ∙ rw f)))
+        (λ f. let k : Some (value 0 s) ≡ Some n = simp f at w in let v : value 0 s ≡ n = cc in number_whole e f ∙ ap (within lo hi) v)
+        (λ f. let k : ◌≡◌ {A = Option ℕ} None (Some n) = simp f at w in absurd (cc))
+
+    pub whole_none : whole_number s ≡ None → led s ≡ false → read_number lo hi s ≡ none
+    unfolding whole_number
+    whole_none w e =
+        split (figures s)
+        (λ f. let k : ◌≡◌ {A = Option ℕ} (Some (value 0 s)) None = simp f at w in absurd (cc))
+        (λ f. number_no_digit e f)
 
   -- a number of more than five digits is out of range
-  pub number_long : hi < 65536 → 5 < length s → read_number lo hi s ≡ none
+  number_long : hi < 65536 → 5 < length s → read_number lo hi s ≡ none
   unfolding read_number
   number_long h l =
       split (shortest s)
       (λ e. let m : 100000 ≤ value 0 s = many s e l in rw (e, lt-leb (value 0 s) hi (omega arith), and-false (leb lo (value 0 s))))
       (λ e. number_none e)
+
+  pub number_sized : hi < 65536 → eqb (length s) 0 || ltb 5 (length s) ≡ true → read_number lo hi s ≡ none
+  number_sized l h =
+      split (eqb (length s) 0)
+      (λ e. number_empty (eqb-true (length s) 0 e))
+      (λ e. number_long l (ltb-true 5 (length s) (simp e at h)))
+
+pub sized : (s : List ℕ) → eqb (length s) 0 || ltb 5 (length s) ≡ false → length s ≡ 0 → ⊥
+sized s h z = let k : true ≡ false = simp z at h in cc
 
 -- ---- the digits after the point
 module _ (s : List ℕ) where
@@ -99,13 +131,9 @@ module _ (s : List ℕ) where
   unfolding fraction
   fraction_none h = rw h
 
-  pub fraction_long : 5 < length s → fraction s ≡ false
+  pub fraction_any : 1 ≤ length s → fraction s ≡ leb (length s) 5 && (figures s && not (eqb (get_or s (length s - 1) 0) 48))
   unfolding fraction
-  fraction_long h = rw (lt-leb (length s) 5 h) (and-false (leb 1 (length s)))
-
-  pub fraction_some : (length s ≡ 0 → ⊥) → length s ≤ 5 → fraction s ≡ figures s && not (eqb (get_or s (length s - 1) 0) 48)
-  unfolding fraction
-  fraction_some h l = rw (le-leb 1 (length s) (omega arith), le-leb (length s) 5 l)
+  fraction_any h = rw (le-leb 1 (length s) h)
 
   pub fraction_parts : fraction s ≡ true → (1 ≤ length s) × (length s ≤ 5) × (figures s ≡ true) × (get_or s (length s - 1) 0 ≡ 48 → ⊥)
   unfolding fraction

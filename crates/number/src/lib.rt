@@ -2,48 +2,30 @@
 #![tactic(auto)]
 
 ghost use Rattle.std.specs.Prelude.{◌≡◌, true, ◌-◌, ◌^◌, ◌<◌, ◌≤◌, length, replicate};
-ghost use Rattle.number.specs.Number.{figure as figure_of, figures as figures_of, value as value_of, shortest as shortest_of, said, none as no_number, read_number};
+ghost use Rattle.number.specs.Number.{figures as figures_of, value as value_of, shortest as shortest_of, said, read_number};
 ghost use Rattle.number.specs.Amount.{before, fraction as fraction_of, read_amount};
 ghost use Rattle.number.specs.Code.Parts.{whole_number, within as within_of, after_point, with_fraction};
 
 use cells::Fault;
 
-// No number, no amount: 27.
-fn none() -> Result<u64, Fault>
-    ensures { said result ≡ no_number }
-{
-    Err(Fault {
-        number: 27,
-        place: 0,
-    })
-}
-
-fn figure(c: u8) -> bool
-    ensures { result ≡ figure_of c }
-{
-    (b'0' <= c) & (c <= b'9')
-}
+// No number, no amount.
+const NONE: Fault = Fault {
+    number: 27,
+    place: 0,
+};
 
 fn digit(c: u8) -> u64
     requires { 48 ≤ c }
     ensures { result ≡ c - 48 }
 {
-    (c - b'0') as u64
+    u64::from(c - b'0')
 }
 
 // Are all the bytes digits?
 pub fn figures(s: &[u8]) -> bool
     ensures { result ≡ figures_of s.now }
 {
-    let mut i: usize = 0;
-    while i < s.len() {
-        if figure(s[i]) {
-            i += 1;
-        } else {
-            return false;
-        }
-    }
-    true
+    s.iter().all(|c| c.is_ascii_digit())
 }
 
 // The number n with these digits after it.
@@ -52,10 +34,8 @@ fn value(s: &[u8], n: u64) -> u64
     ensures { result ≡ value_of n s.now }
 {
     let mut m = n;
-    let mut i: usize = 0;
-    while i < s.len() {
-        m = m * 10 + digit(s[i]);
-        i += 1;
+    for &c in s {
+        m = m * 10 + digit(c);
     }
     m
 }
@@ -66,10 +46,8 @@ fn with_zeros(n: u64, count: usize) -> u64
     ensures { result ≡ value_of n (replicate count 48) }
 {
     let mut m = n;
-    let mut k = count;
-    while 0 < k {
-        m = m * 10;
-        k -= 1;
+    for _ in 0..count {
+        m *= 10;
     }
     m
 }
@@ -78,84 +56,75 @@ fn with_zeros(n: u64, count: usize) -> u64
 fn shortest(s: &[u8]) -> bool
     ensures { result ≡ shortest_of s.now }
 {
-    if s.len() == 0 {
-        return false;
+    match s {
+        [] => false,
+        [_] => figures(s),
+        [first, ..] => (*first != b'0') & figures(s),
     }
-    figures(s) & ((s.len() == 1) | (s[0] != b'0'))
 }
 
 fn within(n: u64, lo: u64, hi: u64) -> Result<u64, Fault>
     ensures { said result ≡ within_of lo hi n }
 {
-    if n < lo {
-        return none();
+    if (lo <= n) & (n <= hi) {
+        Ok(n)
+    } else {
+        Err(NONE)
     }
-    if hi < n {
-        return none();
-    }
-    Ok(n)
 }
 
-// At most five digits as their number; 100000, which is above five digits and above any hi, where a byte is no digit.
-fn whole_number(s: &[u8]) -> u64
+// At most five digits as their number.
+fn whole_number(s: &[u8]) -> Option<u64>
     requires { length s.now ≤ 5 }
     ensures { result ≡ whole_number s.now }
 {
-    let mut m: u64 = 0;
-    let mut i: usize = 0;
-    while i < s.len() {
-        if figure(s[i]) {
-            m = m * 10 + digit(s[i]);
-            i += 1;
-        } else {
-            return 100000;
+    let mut m = 0;
+    for &c in s {
+        if !c.is_ascii_digit() {
+            return None;
         }
+        m = m * 10 + digit(c);
     }
-    m
+    Some(m)
 }
 
 // A number from lo to hi. One of more than five digits is above any hi.
 pub fn read(s: &[u8], lo: u16, hi: u16) -> Result<u64, Fault>
     ensures { said result ≡ read_number lo hi s.now }
 {
-    if 5 < s.len() {
-        return none();
-    }
-    if s.len() == 0 {
-        return none();
+    if s.is_empty() | (5 < s.len()) {
+        return Err(NONE);
     }
     if (s[0] == b'0') & (s.len() != 1) {
-        return none();
+        return Err(NONE);
     }
-    within(whole_number(s), lo as u64, hi as u64)
+    match whole_number(s) {
+        Some(n) => within(n, u64::from(lo), u64::from(hi)),
+        None => Err(NONE),
+    }
 }
 
 // The place of the first point; the length where there is none.
 fn point(s: &[u8]) -> usize
     ensures { result ≡ length (before s.now) }
 {
-    let mut i: usize = 0;
-    while i < s.len() {
-        if s[i] == b'.' {
+    // Kept: with std's `position` no search found the place of the rule.
+    for (i, &c) in s.iter().enumerate() {
+        if c == b'.' {
             return i;
         }
-        i += 1;
     }
-    i
+    s.len()
 }
 
 // One to five digits, the last not 0.
 fn fraction(s: &[u8]) -> bool
     ensures { result ≡ fraction_of s.now }
 {
-    if s.len() == 0 {
-        return false;
+    match s {
+        [] => false,
+        [.., last] => (s.len() <= 5) & (figures(s) & (*last != b'0')),
     }
-    if 5 < s.len() {
-        return false;
-    }
-    let last = s.len() - 1;
-    figures(s) & (s[last] != b'0')
 }
 
 // The amount whose whole part is n and whose digits after the point are these.
@@ -166,7 +135,7 @@ fn after_point(s: &[u8], n: u64) -> Result<u64, Fault>
     if fraction(s) {
         return Ok(with_zeros(value(s, n), 5 - s.len()));
     }
-    none()
+    Err(NONE)
 }
 
 // The amount whose whole part is n, and ends at a place: there the point stands, or nothing.
@@ -187,11 +156,11 @@ pub fn read_amount(s: &[u8]) -> Result<u64, Fault>
 {
     let at = point(s);
     if 6 < at {
-        return none();
+        return Err(NONE);
     }
     let whole = &s[..at];
     if shortest(whole) {
         return with_fraction(s, at, value(whole, 0));
     }
-    none()
+    Err(NONE)
 }

@@ -1,7 +1,7 @@
 -- Which record number may come next, by the last one alone: "rising, only 81 repeating", with no needed one left out, and the next RP or drug after a drug.
 -- `Rattle.order.proofs.Laws` says that this is the order of `Order`, and that its 23, 24 and 32 are those of `Verdict`.
 -- Assumes nothing.
-use Rattle.std.specs.Prelude.{ℕ, Bool, cond, not, ◌&&◌, ◌||◌, List, ◌++◌, ltb, leb, eqb}
+use Rattle.std.specs.Prelude.{ℕ, Bool, cond, not, ◌&&◌, ◌||◌, List, ◌++◌, ltb, leb, eqb, ⊤, Result, Ok, Err}
 use Rattle.order.specs.Order.{some, among, header, directions, drug, records}
 
 -- The needed records: the header's, then an RP's and a drug's.
@@ -39,6 +39,10 @@ refusal q n = cond (leb 101 n) 32 (cond (ltb q n) 32 24)
 -- "23 unknown record number", then 24 and 32: what n is told after q, 0 where it may stand.
 unfoldable pub follow : ℕ → ℕ → ℕ
 follow q n = cond (among records n) (cond (may q n) 0 (refusal q n)) 23
+
+-- Such a number as an answer: 0 says that the record may stand, any other that it is refused.
+abbrev pub standing : ℕ → Result ⊤ ℕ
+standing n = cond (eqb n 0) (Ok tt) (Err n)
 
 -- A sheet may end after a drug.
 abbrev pub closes : ℕ → Bool

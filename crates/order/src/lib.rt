@@ -5,7 +5,7 @@
 ghost use Rattle.std.specs.Prelude.{◌≡◌};
 ghost use Rattle.order.specs.Order.{among, records};
 ghost use Rattle.order.specs.Code.Known.{in_header, in_rp};
-ghost use Rattle.order.specs.Next.{between as between_of, skips as skips_of, rises as rises_of, anew as anew_of, may as may_of, refusal as refusal_of, follow as follow_of, closes as closes_of};
+ghost use Rattle.order.specs.Next.{between as between_of, skips as skips_of, rises as rises_of, anew as anew_of, may as may_of, refusal as refusal_of, follow as follow_of, standing, closes as closes_of};
 
 // Those that are never left out.
 const NEEDED: [u16; 11] = [1, 5, 11, 12, 13, 22, 23, 51, 101, 111, 201];
@@ -14,28 +14,14 @@ const NEEDED: [u16; 11] = [1, 5, 11, 12, 13, 22, 23, 51, 101, 111, 201];
 fn in_header(n: u16) -> bool
     ensures { result ≡ in_header n }
 {
-    ((1 <= n) & (n <= 5))
-        | ((11 <= n) & (n <= 14))
-        | ((21 <= n) & (n <= 31) & (n != 26))
-        | ((51 <= n) & (n <= 52))
-        | ((61 <= n) & (n <= 63))
-        | ((81 <= n) & (n <= 82))
+    matches!(n, 1..=5 | 11..=14 | 21..=25 | 27..=31 | 51..=52 | 61..=63 | 81..=82)
 }
 
 // The number of a record of an RP or of a drug.
 fn in_rp(n: u16) -> bool
     ensures { result ≡ in_rp n }
 {
-    (n == 101)
-        | (n == 102)
-        | (n == 111)
-        | (n == 181)
-        | (n == 201)
-        | (n == 211)
-        | (n == 221)
-        | (n == 231)
-        | (n == 241)
-        | (n == 281)
+    matches!(n, 101 | 102 | 111 | 181 | 201 | 211 | 221 | 231 | 241 | 281)
 }
 
 // Is it the number of a record?
@@ -56,12 +42,9 @@ fn between(last: u16, n: u16, m: u16) -> bool
 fn skips(last: u16, n: u16) -> bool
     ensures { result ≡ skips_of last n }
 {
-    let needed = NEEDED;
     let mut skipped = false;
-    let mut i: usize = 0;
-    while i < 11 {
-        skipped = skipped | between(last, n, needed[i]);
-        i += 1;
+    for &m in &NEEDED {
+        skipped |= between(last, n, m);
     }
     skipped
 }
@@ -84,39 +67,28 @@ fn anew(last: u16, n: u16) -> bool
 fn may(last: u16, n: u16) -> bool
     ensures { result ≡ may_of last n }
 {
-    if anew(last, n) {
-        return true;
-    }
-    if rises(last, n) {
-        return !skips(last, n);
-    }
-    false
+    anew(last, n) || (rises(last, n) && !skips(last, n))
 }
 
 // 32 where records put before n would help it: a header record that does not rise is past help.
 fn refusal(last: u16, n: u16) -> u16
     ensures { result ≡ refusal_of last n }
 {
-    if 101 <= n {
-        return 32;
-    }
-    if last < n {
-        return 32;
-    }
-    24
+    if (101 <= n) | (last < n) { 32 } else { 24 }
 }
 
-// What a record number is told after the last one: 0 where it may stand, 23 where it is unknown, else 24 or 32.
-pub fn follow(last: u16, n: u16) -> u16
-    ensures { result ≡ follow_of last n }
+// What a record number is told after the last one: 23 where it is unknown, 24 or 32 where it may not stand.
+pub fn follow(last: u16, n: u16) -> Result<(), u16>
+    ensures { result ≡ standing (follow_of last n) }
 {
-    if known(n) {
-        if may(last, n) {
-            return 0;
-        }
-        return refusal(last, n);
+    if !known(n) {
+        return Err(23);
     }
-    23
+    if may(last, n) {
+        Ok(())
+    } else {
+        Err(refusal(last, n))
+    }
 }
 
 // May the file end after the last record?

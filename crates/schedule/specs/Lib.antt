@@ -1,3 +1,2 @@
 pub mod Schedule
 pub mod Kept
-pub mod Code

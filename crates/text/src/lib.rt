@@ -48,17 +48,12 @@ fn at_character(s: &[u8], at: usize, space: bool) -> bool
     ensures { result ≡ rest space (characters (drop at s.now)) }
 {
     let mut spaced = space;
-    let mut i = at;
-    while i < s.len() {
+    for i in at..s.len() {
         let b = s[i];
         if !single(b) {
-            if lead(b) {
-                return at_second(s, i + 1, b);
-            }
-            return false;
+            return lead(b) && at_second(s, i + 1, b);
         }
         spaced = b == b' ';
-        i += 1;
     }
     !spaced
 }
@@ -70,6 +65,7 @@ fn at_second(s: &[u8], at: usize, a: u8) -> bool
     ensures { result ≡ rest false (led (drop at s.now) a) }
 {
     let mut first = a;
+    // Kept: a turn takes two bytes, and may end between them.
     let mut i = at;
     while i < s.len() {
         let b = s[i];
@@ -94,14 +90,11 @@ fn at_second(s: &[u8], at: usize, a: u8) -> bool
 fn starts_space(s: &[u8]) -> bool
     ensures { result ≡ starts (characters s.now) }
 {
-    if s.len() == 0 {
-        return false;
+    match s {
+        [] => false,
+        [a] => *a == b' ',
+        [a, b, ..] => (*a == b' ') | wide_space(*a, *b),
     }
-    let a = s[0];
-    if s.len() == 1 {
-        return a == b' ';
-    }
-    (a == b' ') | wide_space(a, s[1])
 }
 
 // A text of at most so many bytes. The length is tested first, so that the scanners call each other at most `most` times.
@@ -111,10 +104,7 @@ pub fn is_text(s: &[u8], most: usize) -> bool
     if most < s.len() {
         return false;
     }
-    if starts_space(s) {
-        return false;
-    }
-    at_character(s, 0, false)
+    !starts_space(s) && at_character(s, 0, false)
 }
 
 // The text at a place of the lent bytes; where they have no such place, `none`.

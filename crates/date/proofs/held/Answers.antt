@@ -6,5 +6,5 @@ use Rattle.date.proofs.held.Goals as goal
 pub returns-then-is_date : goal.returns-then-is_date
 returns-then-is_date c = rw (sym c.is_date.ensures ∙ c.if-is_date.true)
 
-pub returns : goal.returns
-returns c = rw (sym c.is_date.ensures ∙ c.if-is_date.false) c.none.ensures
+pub returns-else-is_date : goal.returns-else-is_date
+returns-else-is_date c = rw (sym c.is_date.ensures ∙ c.if-is_date.false)

@@ -8,8 +8,8 @@ use Rattle.date.proofs.print_western.Goals as goal
 
 pub returns : goal.returns
 returns c =
-    let m = c.wide-month.ensures in
-    let d = c.wide-day.ensures in
+    let m = c.from-month.ensures in
+    let d = c.from-day.ensures in
     λ i.
     record {
       length = 8;

@@ -15,13 +15,13 @@ overflow_sub-era c = let p = c.requires in (digit_at c.args.s.now 0 p.0 (omega a
 pub returns-then-era-eq0 : goal.returns-then-era-eq0
 returns-then-era-eq0 c =
     let p = c.requires in
-    c.none.ensures ∙ sym (read_zero c.args.s.now p.0 p.1 c.if-era-eq0.true)
+    sym (read_zero c.args.s.now p.0 p.1 c.if-era-eq0.true)
 
 pub returns : goal.returns
 returns c =
     let p = c.requires in
     let s = c.args.s.now in
-    let y = c.wide.ensures ∙ c.two.ensures.0 in
+    let y = c.from.ensures ∙ c.two.ensures.0 in
     c.held.ensures ∙
     (λ i. held (date (get_or s 0 0 - 48) (c.era_adds.ensures.0 i + y i) (c.two-2.ensures.0 i) (c.two-3.ensures.0 i))) ∙
     sym (read_era_lem s p.0 p.1 c.if-era-eq0.false)

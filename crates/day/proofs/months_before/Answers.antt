@@ -11,8 +11,8 @@ returns-then-leap c =
     let a = c.args in
     (past_year a.year a.month true (omega arith) (sym c.leap.ensures ∙ c.if-leap.true), omega arith)
 
-pub returns-then-month-gt12 : goal.returns-then-month-gt12
-returns-then-month-gt12 c =
+pub returns-else-leap : goal.returns-else-leap
+returns-else-leap c =
     let a = c.args in
     (past_year a.year a.month false (omega arith) (sym c.leap.ensures ∙ c.if-leap.false), omega arith)
 
@@ -25,8 +25,8 @@ returns-then-month-leap c =
     let s = table_small a.month (omega arith) in
     (day_more a.year a.month _ (omega arith) (rw c.leap-2.ensures at c.if-month-leap.true) (omega arith), omega arith)
 
-pub returns : goal.returns
-returns c =
+pub returns-else-month-leap : goal.returns-else-month-leap
+returns-else-month-leap c =
     let a = c.args in
     let s = table_small a.month (omega arith) in
     (no_day_more a.year a.month _ (omega arith) (rw c.leap-2.ensures at c.if-month-leap.false) (omega arith), omega arith)

@@ -5,4 +5,4 @@ use Rattle.day.proofs.Years.{formula}
 use Rattle.day.proofs.years_before.Goals as goal
 
 pub returns : goal.returns
-returns c = formula c.args.year (search rules)
+returns c = rw c.from-y.ensures (formula c.args.year (search rules))

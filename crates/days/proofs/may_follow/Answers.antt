@@ -1,39 +1,13 @@
--- Test by test, as `may_follow` has them.
+-- By whether a code stands before it.
 -- Assumes nothing.
-use mathlib.Core.Path.{ap₂}
-use borrow.Author.Tests.{ne_eqb}
-use lib.Dec.{ltb}
-use Rattle.cells.proofs.Tests.{tests}
+use Rattle.std.proofs.Common.{refl}
 use Rattle.days.specs.Code.Walk.{may_follow}
 use Rattle.days.proofs.may_follow.Goals as goal
 
-pub returns-then-a-eq0 : goal.returns-then-a-eq0
+pub returns-in-None : goal.returns-in-None
 unfolding may_follow
-returns-then-a-eq0 c = search tests
+returns-in-None c = rw c.in-None.is refl
 
-pub returns-then-a-eq6 : goal.returns-then-a-eq6
+pub returns-in-Some : goal.returns-in-Some
 unfolding may_follow
-returns-then-a-eq6 c = search tests
-
-pub returns-then-a-b : goal.returns-then-a-b
-unfolding may_follow
-returns-then-a-b c = search tests
-
-pub returns-then-a-eq0-2 : goal.returns-then-a-eq0-2
-unfolding may_follow
-returns-then-a-eq0-2 c = search tests
-
-pub returns-then-b-eq0 : goal.returns-then-b-eq0
-unfolding may_follow
-returns-then-b-eq0 c = search tests
-
-pub returns : goal.returns
-unfolding may_follow
-returns c =
-    simp (
-      ne_eqb _ _ c.if-a-eq0.false,
-      ne_eqb _ _ c.if-a-b.false,
-      ne_eqb _ _ c.if-a-eq0-2.false,
-      ne_eqb _ _ c.if-b-eq0.false,
-    )
-    (ap₂ ltb c.distance.ensures c.distance-2.ensures)
+returns-in-Some c = rw c.in-Some.is c.goes_on.ensures

@@ -1,11 +1,11 @@
 -- A run read code by code: a code as numbers, whether it may follow the one before it, and what stops the run at it.
 -- Assumes nothing.
-use Rattle.std.specs.Prelude.{ℕ, ◌≡◌, Bool, true, false, cond, List, [], ◌∷◌, eqb, ltb, length, get_or, Result}
-use Rattle.cells.specs.Test.{Answer, took, refused}
+use Rattle.std.specs.Prelude.{ℕ, ◌≡◌, Bool, true, false, cond, List, [], ◌∷◌, eqb, get_or, Option, Some, None, Result, Ok, Err}
+use Rattle.cells.specs.Test.{Answer, took, refused, fault}
 use Rattle.supplement.specs.Supplement.{read_supplement, said}
 use Rattle.supplement.specs.declared.Supplement.{Supplement}
 use Rattle.supplement.specs.declared.Days.{Days}
-use Rattle.days.specs.Run.{Code, code_of, upto0, last_of, mask_of, distance}
+use Rattle.days.specs.Run.{Code, code_of, upto0, mask_of, last_date, goes_on}
 use Rattle.days.specs.declared.Date.{Date}
 use Rattle.days.specs.declared.Halt.{Halt}
 use Rattle.cells.specs.declared.Fault.{Fault}
@@ -20,11 +20,8 @@ six_of x = upto0 (columns x)
 
 -- The numbers of a D code.
 pub record Told (c : Code) (d : Date) : Type 0 where
-  pub reads : d.refusal ≡ 0
-  pub month : d.month ≡ c.month
-  pub count : d.count ≡ length c.days
+  pub ends : d.ends ≡ last_date c.month c.days
   pub first : d.first ≡ get_or c.days 0 0
-  pub last : d.last ≡ last_of c.days
   pub mask : d.mask ≡ mask_of c.days
 
 -- A reading that some characters have.
@@ -32,34 +29,33 @@ pub record HasText (r : Result Supplement Fault) : Type 0 where
   pub text : List ℕ
   pub reads : said r ≡ read_supplement text
 
--- No D code.
-abbrev pub no_date : ℕ → ℕ → Date
-no_date n p = record { refusal = n; place = p; month = 0; count = 0; first = 0; last = 0; mask = 0 }
+-- A code that reads as a D code,
+pub record IsDate (c : Code) (r : Result (Option Date) Fault) : Type 0 where
+  pub date : Date
+  pub is : r ≡ Ok (Some date)
+  pub told : Told c date
 
--- The numbers of a code that reads: of a D code, or of any other.
-abbrev pub Kept : Bool → Code → Date → Type 0
-Kept true c d = Told c d
-Kept false c d = d ≡ no_date 0 0
+-- or as any other.
+abbrev pub Kept : Bool → Code → Result (Option Date) Fault → Type 0
+Kept true c r = IsDate c r
+Kept false c r = r ≡ Ok None
 
--- The numbers of a code by its reading.
-abbrev pub Dated : Answer Supplement → Date → Type 0
-Dated (took x) d = Kept (eqb x.letter 68) (code_of x) d
-Dated (refused n p) d = d ≡ no_date n p
+-- A code by its reading.
+abbrev pub Dated : Answer Supplement → Result (Option Date) Fault → Type 0
+Dated (took x) r = Kept (eqb x.letter 68) (code_of x) r
+Dated (refused n p) r = r ≡ Err (fault n p)
 
 -- b may stand just after a, or first where there is no a.
-unfoldable pub may_follow : ℕ → Date → Date → Bool
-may_follow issue a b =
-    cond (eqb a.count 0) true
-    (cond (eqb a.month b.month)
-    (cond (eqb a.count 6) (ltb a.last b.first) false)
-    (cond (eqb a.month 0) false (cond (eqb b.month 0) false (ltb (distance issue a.month) (distance issue b.month)))))
+unfoldable pub may_follow : ℕ → Option Date → Date → Bool
+may_follow issue None b = true
+may_follow issue (Some a) b = goes_on issue a.ends b.ends.month b.first
 
 -- A number, its place, and a code's number.
 abbrev pub halt : ℕ → ℕ → ℕ → Halt
 halt n p k = record { number = n; place = p; code = k }
 
--- What stops a run at its kth code d, after the code a.
-unfoldable pub halt_at : ℕ → ℕ → Date → Date → Halt
-halt_at issue k a d =
-    cond (eqb d.refusal 0) (cond (eqb d.count 0) (halt 12 k 0) (cond (may_follow issue a d) (halt 0 0 0) (halt 12 k 0)))
-    (halt d.refusal d.place k)
+-- The kth code of a run, after the code a, or what stops the run at it.
+unfoldable pub step_at : ℕ → ℕ → Option Date → Result (Option Date) Fault → Result Date Halt
+step_at issue k a (Err f) = Err (halt f.number f.place k)
+step_at issue k a (Ok None) = Err (halt 12 k 0)
+step_at issue k a (Ok (Some d)) = cond (may_follow issue a d) (Ok d) (Err (halt 12 k 0))

@@ -27,13 +27,13 @@ returns-then-days-eq0 c =
       eq-eqb _ _ c.if-days-eq0.true,
     )
 
-pub returns : goal.returns
+pub returns-else-days-eq0 : goal.returns-else-days-eq0
 unfolding writable mixes
-returns c =
+returns-else-days-eq0 c =
     simp (
       sym c.empty_from.ensures ∙ c.if-empty_from.false,
       sym c.no_such_day.ensures ∙ c.if-no_such_day.false,
       ne_eqb _ _ c.if-days-eq0.false,
       twice,
     )
-    c.empty_from-2.ensures
+    c.empty_from-else-days-eq0.ensures

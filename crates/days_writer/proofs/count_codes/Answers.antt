@@ -11,39 +11,18 @@ use Rattle.days_writer.proofs.count_codes.Goals as goal
 pub loop-p-init : goal.loop-p-init
 loop-p-init c = (omega arith, omega arith, omega arith)
 
-pub month_at-m-requires : goal.month_at-m-requires
-month_at-m-requires c = omega arith
-
-pub overflow_cast-k : goal.overflow_cast-k
-overflow_cast-k c = omega arith
-
-pub offset_bounds-days-k : goal.offset_bounds-days-k
-offset_bounds-days-k c = omega arith
-
-pub bounds-days-k : goal.bounds-days-k
-bounds-days-k c = omega arith
-
-pub day_count-requires : goal.day_count-requires
-day_count-requires c = tt
-
 pub overflow_add-n : goal.overflow_add-n
 overflow_add-n c = omega arith
 
 pub overflow_add-n-in-loop-p : goal.overflow_add-n-in-loop-p
 overflow_add-n-in-loop-p c = omega arith
 
-pub overflow_add-p : goal.overflow_add-p
-overflow_add-p c = omega arith
-
-pub loop-p-smaller : goal.loop-p-smaller
-loop-p-smaller c = omega arith
-
 pub loop-p-preserved : goal.loop-p-preserved
 loop-p-preserved c =
     let a = c.args in
     let l = c.loop-p in
     let m = c.month_at-m in
-    let n = run_count a.issue l.p a.days.cells m.result (omega arith) m.ensures.0 in
+    let n = run_count a.issue.number l.p a.days.cells m.result (omega arith) m.ensures.0 in
     let t = count m.result (days_in a.days.cells m.result) in
     (omega arith, omega arith, omega (arith, c.day_count.ensures.0))
 
@@ -52,4 +31,4 @@ unfolding run_of
 returns c =
     let a = c.args in
     let l = c.loop-p in
-    (omega (arith, ap length (run_end a.issue l.p (days_in a.days.cells) (omega arith))), omega arith)
+    (omega (arith, ap length (run_end a.issue.number l.p (days_in a.days.cells) (omega arith))), omega arith)

@@ -8,7 +8,4 @@ use Rattle.days_writer.proofs.count_codes.Given as goal
 
 abbrev pub invariant-loop-p : goal.invariant-loop-p
 invariant-loop-p l =
-    (l.p ≤ 13) × (l.n ≤ 6 * l.p) × (l.n + length (codes_from l.issue (13 - l.p) l.p (days_in l.days.cells)) ≡ length (codes_from l.issue 13 0 (days_in l.days.cells)))
-
-abbrev pub decreases-loop-p : goal.decreases-loop-p
-decreases-loop-p l = 13 - l.p
+    (l.p ≤ 13) × (l.n ≤ 6 * l.p) × (l.n + length (codes_from l.issue.number (13 - l.p) l.p (days_in l.days.cells)) ≡ length (codes_from l.issue.number 13 0 (days_in l.days.cells)))

@@ -10,24 +10,6 @@ use Rattle.days_writer.proofs.day_count.Goals.{then-mask-e-eq1, else-mask-e-eq1}
 pub loop-e-init : goal.loop-e-init
 loop-e-init c = (omega arith, omega arith, omega arith, omega arith)
 
-pub overflow_sub-e : goal.overflow_sub-e
-overflow_sub-e c = omega arith
-
-pub overflow_cast-e : goal.overflow_cast-e
-overflow_cast-e c = omega arith
-
-pub overflow_shr-mask : goal.overflow_shr-mask
-overflow_shr-mask c = omega arith
-
-pub overflow_add-n : goal.overflow_add-n
-overflow_add-n c = omega arith
-
-pub overflow_add-e : goal.overflow_add-e
-overflow_add-e c = omega arith
-
-pub loop-e-smaller : goal.loop-e-smaller
-loop-e-smaller c = omega arith
-
 pub loop-e-preserved : goal.loop-e-preserved
 loop-e-preserved c =
     let a = c.args in

@@ -14,12 +14,6 @@ use Rattle.days_writer.proofs.empty_from.Goals as goal
 pub loop-m-init : goal.loop-m-init
 loop-m-init c = refl
 
-pub offset_bounds-days-m : goal.offset_bounds-days-m
-offset_bounds-days-m c = omega arith
-
-pub bounds-days-m : goal.bounds-days-m
-bounds-days-m c = omega arith
-
 pub returns-then-days-m-ne0 : goal.returns-then-days-m-ne0
 returns-then-days-m-ne0 c =
     let a = c.args in
@@ -27,12 +21,6 @@ returns-then-days-m-ne0 c =
     let len : length a.days.cells ≡ 13 = search rules in
     sym
     (sym l.invariant ∙ empty_step a.days.cells l.m (omega arith) ∙ ap (λ (b : Bool). b && empty (drop (l.m + 1) a.days.cells)) (ne_eqb _ _ c.if-days-m-ne0.true))
-
-pub overflow_add-m : goal.overflow_add-m
-overflow_add-m c = omega arith
-
-pub loop-m-smaller : goal.loop-m-smaller
-loop-m-smaller c = omega arith
 
 pub loop-m-preserved : goal.loop-m-preserved
 loop-m-preserved c =

@@ -8,26 +8,11 @@ use Rattle.days_writer.proofs.next_day.Goals as goal
 pub loop-e-init : goal.loop-e-init
 loop-e-init c = (omega arith, omega arith, refl)
 
-pub overflow_sub-e : goal.overflow_sub-e
-overflow_sub-e c = omega arith
-
-pub overflow_cast-e : goal.overflow_cast-e
-overflow_cast-e c = omega arith
-
-pub overflow_shr-mask : goal.overflow_shr-mask
-overflow_shr-mask c = omega arith
-
 pub returns-then-mask-e-eq1 : goal.returns-then-mask-e-eq1
 returns-then-mask-e-eq1 c =
     let a = c.args in
     let l = c.loop-e in
     record { reach = l.invariant.0; most = l.invariant.1; same = l.invariant.2; head = λ h. since_in a.mask l.e (omega arith) (omega arith) c.if-mask-e-eq1.true }
-
-pub overflow_add-e : goal.overflow_add-e
-overflow_add-e c = omega arith
-
-pub loop-e-smaller : goal.loop-e-smaller
-loop-e-smaller c = omega arith
 
 pub loop-e-preserved : goal.loop-e-preserved
 loop-e-preserved c =

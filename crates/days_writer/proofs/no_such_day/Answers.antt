@@ -14,15 +14,6 @@ use Rattle.days_writer.proofs.no_such_day.Goals as goal
 pub loop-m-init : goal.loop-m-init
 loop-m-init c = (omega arith, refl)
 
-pub offset_bounds-m : goal.offset_bounds-m
-offset_bounds-m c = omega arith
-
-pub offset_bounds-days-m : goal.offset_bounds-days-m
-offset_bounds-days-m c = omega arith
-
-pub bounds-m : goal.bounds-m
-bounds-m c = omega arith
-
 pub returns-then-m-days : goal.returns-then-m-days
 returns-then-m-days c =
     let a = c.args in
@@ -31,12 +22,6 @@ returns-then-m-days c =
     sym
     (sym l.invariant.1 ∙ exist_step a.days.cells l.m (omega arith)
     ∙ ap (λ (b : Bool). b || no_such_day (l.m + 1) (drop (l.m + 1) a.days.cells)) (le-leb _ _ (rw (beyond_at l.m (omega arith)) at c.if-m-days.true)))
-
-pub overflow_add-m : goal.overflow_add-m
-overflow_add-m c = omega arith
-
-pub loop-m-smaller : goal.loop-m-smaller
-loop-m-smaller c = omega arith
 
 pub loop-m-preserved : goal.loop-m-preserved
 loop-m-preserved c =

@@ -1,6 +1,6 @@
 -- The cells passed hold only days of their months: the test of the cells left is the test of all.
 -- Assumes nothing.
-use Prim.Native.Nat.{◌-◌, ◌≤◌}
+use Prim.Native.Nat.{◌≤◌}
 use mathlib.Core.Path.{◌≡◌}
 use lib.ListN.{drop}
 use Rattle.days_writer.specs.Set.{no_such_day}
@@ -9,6 +9,3 @@ use Rattle.days_writer.proofs.no_such_day.Given as goal
 abbrev pub invariant-loop-m : goal.invariant-loop-m
 invariant-loop-m l =
     (l.m ≤ 13) × (no_such_day l.m (drop l.m l.days.cells) ≡ no_such_day 0 l.days.cells)
-
-abbrev pub decreases-loop-m : goal.decreases-loop-m
-decreases-loop-m l = 13 - l.m

@@ -39,12 +39,6 @@ put_day-e-requires c =
     let len : length l.out ≡ length a.out.now = l.invariant.3 ∙ simp length-set in
     (omega arith, omega arith, omega arith)
 
-pub overflow_add-i : goal.overflow_add-i
-overflow_add-i c = omega arith
-
-pub loop-i-smaller : goal.loop-i-smaller
-loop-i-smaller c = omega arith
-
 pub loop-i-preserved : goal.loop-i-preserved
 loop-i-preserved c =
     let a = c.args in

@@ -12,6 +12,3 @@ abbrev pub invariant-loop-i : goal.invariant-loop-i
 invariant-loop-i l =
     (l.i ≤ 6) × (1 ≤ l.e) × (l.e ≤ 32) × (length l.out ≡ length l.initial.out) × (sets l.out (l.at + 2 + l.i) (pad (6 - l.i) (since l.mask l.e)) ≡ sets l.initial.out (l.at + 2) (pad 6 (since l.mask l.d))) ×
     (drop (6 - l.i) (since l.mask l.e) ≡ drop 6 (since l.mask l.d))
-
-abbrev pub decreases-loop-i : goal.decreases-loop-i
-decreases-loop-i l = 6 - l.i

@@ -9,32 +9,14 @@ use Rattle.days_writer.proofs.put_run.Goals as goal
 pub loop-place-init : goal.loop-place-init
 loop-place-init c = (omega arith, refl, omega arith, refl)
 
-pub month_at-m-requires : goal.month_at-m-requires
-month_at-m-requires c = omega arith
-
-pub overflow_cast-k : goal.overflow_cast-k
-overflow_cast-k c = omega arith
-
-pub offset_bounds-days-k : goal.offset_bounds-days-k
-offset_bounds-days-k c = omega arith
-
-pub bounds-days-k : goal.bounds-days-k
-bounds-days-k c = omega arith
-
 pub put_month-j-requires : goal.put_month-j-requires
 unfolding run_of
 put_month-j-requires c =
     let a = c.args in
     let l = c.loop-place in
     let m = c.month_at-m in
-    let n = run_count a.issue l.place a.days.cells m.result (omega arith) m.ensures.0 in
+    let n = run_count a.issue.number l.place a.days.cells m.result (omega arith) m.ensures.0 in
     omega arith
-
-pub overflow_add-place : goal.overflow_add-place
-overflow_add-place c = omega arith
-
-pub loop-place-smaller : goal.loop-place-smaller
-loop-place-smaller c = omega arith
 
 pub loop-place-preserved : goal.loop-place-preserved
 loop-place-preserved c =
@@ -42,11 +24,11 @@ loop-place-preserved c =
     let l = c.loop-place in
     let m = c.month_at-m in
     let p = c.put_month-j in
-    let n = run_count a.issue l.place a.days.cells m.result (omega arith) m.ensures.0 in (
+    let n = run_count a.issue.number l.place a.days.cells m.result (omega arith) m.ensures.0 in (
       omega arith,
       p.auto.out ∙ l.invariant.1,
       omega (arith, p.ensures.0),
-      run_next a.issue l.place a.days.cells m.result (omega arith) m.ensures.0 l.out _ l.j _ p.ensures.1 p.ensures.0 ∙ l.invariant.3,
+      run_next a.issue.number l.place a.days.cells m.result (omega arith) m.ensures.0 l.out _ l.j _ p.ensures.1 p.ensures.0 ∙ l.invariant.3,
     )
 
 pub shape_of-out : goal.shape_of-out
@@ -57,4 +39,4 @@ unfolding run_of
 returns c =
     let a = c.args in
     let l = c.loop-place in
-    sym (written_all l.out l.j _ (run_end a.issue l.place (days_in a.days.cells) (omega arith))) ∙ l.invariant.3
+    sym (written_all l.out l.j _ (run_end a.issue.number l.place (days_in a.days.cells) (omega arith))) ∙ l.invariant.3

@@ -10,8 +10,5 @@ use Rattle.days_writer.proofs.put_run.Given as goal
 abbrev pub invariant-loop-place : goal.invariant-loop-place
 invariant-loop-place l =
     (l.place ≤ 13) × (length l.out ≡ length l.initial.out) ×
-    (l.j + 8 * length (codes_from l.issue (13 - l.place) l.place (days_in l.days.cells)) ≡ 8 * length (codes_from l.issue 13 0 (days_in l.days.cells))) ×
-    (sets l.out l.j (bytes_of (codes_from l.issue (13 - l.place) l.place (days_in l.days.cells))) ≡ sets l.initial.out 0 (bytes_of (codes_from l.issue 13 0 (days_in l.days.cells))))
-
-abbrev pub decreases-loop-place : goal.decreases-loop-place
-decreases-loop-place l = 13 - l.place
+    (l.j + 8 * length (codes_from l.issue.number (13 - l.place) l.place (days_in l.days.cells)) ≡ 8 * length (codes_from l.issue.number 13 0 (days_in l.days.cells))) ×
+    (sets l.out l.j (bytes_of (codes_from l.issue.number (13 - l.place) l.place (days_in l.days.cells))) ≡ sets l.initial.out 0 (bytes_of (codes_from l.issue.number 13 0 (days_in l.days.cells))))

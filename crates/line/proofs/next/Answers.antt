@@ -1,29 +1,30 @@
 -- Each answer is the rule's, by the tests that led to it.
 -- Assumes nothing.
-use Rattle.cells.proofs.Tests.{tests}
+use Rattle.std.proofs.Common.{refl}
+use borrow.Author.Tests.{eq-eqb, ne_eqb}
 use Rattle.line.specs.Frame.{next}
 use Rattle.line.proofs.next.Goals as goal
 
-pub returns-then-state-eq-LINE : goal.returns-then-state-eq-LINE
+pub returns-in-Line : goal.returns-in-Line
 unfolding next
-returns-then-state-eq-LINE c = search tests
+returns-in-Line c = rw c.in-Line.is c.in_line.ensures
 
 pub returns-then-b-eq10 : goal.returns-then-b-eq10
 unfolding next
-returns-then-b-eq10 c = search tests
+returns-then-b-eq10 c = rw c.in-Return.is (simp (eq-eqb _ _ c.if-b-eq10.true))
 
-pub returns-then-state-eq-RETURN : goal.returns-then-state-eq-RETURN
+pub returns-else-b-eq10 : goal.returns-else-b-eq10
 unfolding next
-returns-then-state-eq-RETURN c = search tests
+returns-else-b-eq10 c = rw c.in-Return.is (simp (ne_eqb _ _ c.if-b-eq10.false))
 
 pub returns-then-b-eq26 : goal.returns-then-b-eq26
 unfolding next
-returns-then-b-eq26 c = search tests
+returns-then-b-eq26 c = rw c.in-Lines.is (simp (eq-eqb _ _ c.if-b-eq26.true))
 
-pub returns-then-state-eq-LINES : goal.returns-then-state-eq-LINES
+pub returns-else-b-eq26 : goal.returns-else-b-eq26
 unfolding next
-returns-then-state-eq-LINES c = search tests
+returns-else-b-eq26 c = rw c.in-Lines.is (simp (ne_eqb _ _ c.if-b-eq26.false) c.in_line-else-b-eq26.ensures)
 
-pub returns : goal.returns
+pub returns-in-All : goal.returns-in-All
 unfolding next
-returns c = search tests
+returns-in-All c = rw c.in-All.is refl

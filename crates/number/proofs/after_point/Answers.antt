@@ -28,4 +28,4 @@ returns-then-fraction c =
 pub returns : goal.returns
 returns c =
     let a = c.args in
-    c.none.ensures ∙ sym (point_none a.n a.s.now (sym c.fraction.ensures ∙ c.if-fraction.false))
+    sym (point_none a.n a.s.now (sym c.fraction.ensures ∙ c.if-fraction.false))

@@ -10,7 +10,7 @@ use Rattle.number.proofs.read_amount.Goals as goal
 pub returns-then-at-gt6 : goal.returns-then-at-gt6
 returns-then-at-gt6 c =
     let p = c.point-at in
-    c.none.ensures ∙ sym (amount_far c.args.s.now p.result p.ensures c.if-at-gt6.true)
+    sym (amount_far c.args.s.now p.result p.ensures c.if-at-gt6.true)
 
 pub slice_bounds-whole-end : goal.slice_bounds-whole-end
 slice_bounds-whole-end c =
@@ -38,4 +38,4 @@ pub returns : goal.returns
 returns c =
     let p = c.point-at in
     let s = c.args.s.now in
-    c.none-2.ensures ∙ sym (amount_badly s p.result p.ensures (sym c.shortest.ensures ∙ c.if-shortest.false))
+    sym (amount_badly s p.result p.ensures (sym c.shortest.ensures ∙ c.if-shortest.false))

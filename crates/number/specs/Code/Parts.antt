@@ -1,13 +1,13 @@
 -- What the parts of the readers answer.
 -- Assumes nothing.
-use Rattle.std.specs.Prelude.{ℕ, ◌-◌, cond, ◌&&◌, List, ◌++◌, leb, length, replicate}
+use Rattle.std.specs.Prelude.{ℕ, ◌-◌, cond, ◌&&◌, List, ◌++◌, leb, length, replicate, Option, Some, None}
 use Rattle.cells.specs.Test.{Answer, took}
 use Rattle.number.specs.Number.{figures, value, none}
 use Rattle.number.specs.Amount.{after, pointed, fraction}
 
--- digits, at most five, as their number; 100000, which no five digits are, where a byte is no digit
-unfoldable pub whole_number : List ℕ → ℕ
-whole_number s = cond (figures s) (value 0 s) 100000
+-- digits as their number, where all are digits
+unfoldable pub whole_number : List ℕ → Option ℕ
+whole_number s = cond (figures s) (Some (value 0 s)) None
 
 -- a number in its range
 unfoldable pub within : ℕ → ℕ → ℕ → Answer ℕ

@@ -1,16 +1,19 @@
--- Each answer is the rule's, by the tests that led to it.
-use borrow.Author.Tests.{le-leb, lt-leb, lt-ltb, le-ltb}
+-- The two tests are one.
+-- Assumes nothing.
+use Rattle.std.proofs.Common.{◌≡◌, ℕ, refl, sym, ◌∙◌, Bool, true, false, cond, ◌||◌, leb, ltb, ap}
 use Rattle.order.specs.Next.{refusal}
 use Rattle.order.proofs.refusal.Goals as goal
 
-pub returns-then-n-ge101 : goal.returns-then-n-ge101
-unfolding refusal
-returns-then-n-ge101 c = search (le-leb, lt-leb, lt-ltb, le-ltb)
+either : (a b : Bool) → ◌≡◌ {A = ℕ} (cond a 32 (cond b 32 24)) (cond (a || b) 32 24)
+either true b = refl
+either false b = refl
 
-pub returns-then-last-n : goal.returns-then-last-n
+by : (q n : ℕ) (b : Bool) → leb 101 n || ltb q n ≡ b → cond b 32 24 ≡ refusal q n
 unfolding refusal
-returns-then-last-n c = search (le-leb, lt-leb, lt-ltb, le-ltb)
+by q n b e = sym (either (leb 101 n) (ltb q n) ∙ ap (λ (b : Bool). cond b 32 24) e)
 
-pub returns : goal.returns
-unfolding refusal
-returns c = search (le-leb, lt-leb, lt-ltb, le-ltb)
+pub returns-then-n-last : goal.returns-then-n-last
+returns-then-n-last c = by c.args.last c.args.n true c.if-n-last.true
+
+pub returns-else-n-last : goal.returns-else-n-last
+returns-else-n-last c = by c.args.last c.args.n false c.if-n-last.false

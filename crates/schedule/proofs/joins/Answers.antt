@@ -1,24 +1,23 @@
 -- Test by test, as `may_join` has them.
 -- Assumes nothing.
+use Rattle.std.proofs.Common.{◌≡◌, refl, Bool, true, false, cond, ◌&&◌}
 use borrow.Author.Tests.{eq-eqb, ne_eqb}
-use Rattle.schedule.specs.Kept.{may_join}
+use Rattle.days.specs.Run.{goes_on}
+use Rattle.schedule.specs.Kept.{may_join, after_date}
 use Rattle.schedule.proofs.joins.Goals as goal
+
+both : (a b z : Bool) → cond a (cond b z false) false ≡ cond (a && b) z false
+both true b z = refl
+both false b z = refl
 
 pub returns-then-t-eq0 : goal.returns-then-t-eq0
 unfolding may_join
 returns-then-t-eq0 c = simp (eq-eqb _ _ c.if-t-eq0.true) c.opens.ensures
 
-pub returns-then-x-eq68 : goal.returns-then-x-eq68
-unfolding may_join
-returns-then-x-eq68 c =
-    simp (ne_eqb _ _ c.if-t-eq0.false, eq-eqb _ _ c.if-t-eq68.true, eq-eqb _ _ c.if-x-eq68.true)
-    c.after_date.ensures
+pub returns-then-t-x : goal.returns-then-t-x
+unfolding may_join after_date goes_on
+returns-then-t-x c = rw (ne_eqb _ _ c.if-t-eq0.false, both, c.if-t-x.true) c.goes_on.ensures
 
-pub returns-else-x-eq68 : goal.returns-else-x-eq68
+pub returns : goal.returns
 unfolding may_join
-returns-else-x-eq68 c =
-    simp (ne_eqb _ _ c.if-t-eq0.false, eq-eqb _ _ c.if-t-eq68.true, ne_eqb _ _ c.if-x-eq68.false)
-
-pub returns-else-t-eq68 : goal.returns-else-t-eq68
-unfolding may_join
-returns-else-t-eq68 c = simp (ne_eqb _ _ c.if-t-eq0.false, ne_eqb _ _ c.if-t-eq68.false)
+returns c = rw (ne_eqb _ _ c.if-t-eq0.false, both, c.if-t-x.false)

@@ -1,10 +1,8 @@
--- The answer is made of what the two calls ensure.
+-- The answer is made of what the call ensures.
 -- Assumes nothing.
-use mathlib.Core.Path.{◌∙◌}
-use Rattle.schedule.proofs.Chain.{full_six}
 use Rattle.schedule.proofs.with.Goals as goal
 
 pub returns : goal.returns
 returns c =
-    let x = c.args.x in
-    λ i. record { letter = x.letter; month = x.month; last = c.last_day.ensures i; full = (c.full.ensures ∙ full_six x.days) i }
+    let e = c.of-last.ensures in
+    λ i. record { letter = c.args.x.letter; month = (e i).month; last = (e i).day; full = (e i).full }

@@ -17,10 +17,10 @@ at_character-returns-then-lead t c =
     ∙ sym (character_lead c.args.s.now l.i (omega arith) l.spaced (sym c.lead.ensures ∙ c.if-lead.true))
     ∙ l.invariant.same
 
-pub at_character-returns-then-not-single : goal.at_character-returns-then-not-single
-at_character-returns-then-not-single t c =
+pub at_character-returns-else-lead : goal.at_character-returns-else-lead
+at_character-returns-else-lead t c =
     let l = c.loop-i in
-    sym (character_none c.args.s.now l.i (omega arith) l.spaced (sym c.lead.ensures ∙ c.if-lead.false) (sym c.single.ensures ∙ c.if-not-single.true))
+    c.if-lead.false ∙ sym (character_none c.args.s.now l.i (omega arith) l.spaced (sym c.lead.ensures ∙ c.if-lead.false) (sym c.single.ensures ∙ c.if-not-single.true))
     ∙ l.invariant.same
 
 pub at_character-loop-i-preserved : goal.at_character-loop-i-preserved

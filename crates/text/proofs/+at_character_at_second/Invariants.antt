@@ -17,9 +17,6 @@ invariant-at_character-loop-i l = record {
   same : rest l.spaced (characters (drop l.i l.s)) ≡ rest l.space (characters (drop l.at l.s));
 }
 
-abbrev pub decreases-at_character-loop-i : goal.decreases-at_character-loop-i
-decreases-at_character-loop-i l = length l.s - l.i
-
 abbrev pub invariant-at_second-loop-i : goal.invariant-at_second-loop-i
 invariant-at_second-loop-i l = record {
   from_at : l.at ≤ l.i;
