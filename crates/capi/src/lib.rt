@@ -3,7 +3,6 @@
 // `sheet_calls` and `writer_calls`.
 #![tactic(auto)]
 
-ghost use Rattle.cells.specs.Writing.{Writes};
 ghost use Rattle.usage.specs.Usage.{read_usage};
 ghost use Rattle.usage.specs.declared.Instruction.{Instruction};
 ghost use Rattle.supplement.specs.Supplement.{read_supplement};
@@ -16,7 +15,7 @@ ghost use Rattle.plain.specs.Codes.{usage_numbers, instruction_of, supplement_nu
 ghost use Rattle.plain_record.specs.Records.{record_of};
 ghost use Rattle.told.specs.States.{reader_of};
 ghost use Rattle.code_calls.specs.Answers.{make_styled};
-ghost use Rattle.code_calls.specs.Calls.{Reads, ReadsRun, TellsSet, Makes};
+ghost use Rattle.code_calls.specs.Calls.{Reads, ReadsRun, TellsSet, Makes, Writes};
 ghost use Rattle.sheet_calls.specs.Calls.{Checks, Opens, Steps};
 ghost use Rattle.writer_calls.specs.State.{writer_of};
 ghost use Rattle.writer_calls.specs.Calls.{OpensBuffer, Puts};

@@ -1,14 +1,19 @@
 -- What holds of the arrays that a call leaves.
 -- Assumes nothing.
 use Prim.Native.Nat.{ℕ}
-use mathlib.Core.Path.{◌≡◌, refl}
+use mathlib.Core.Path.{◌≡◌, refl, sym, ap, ◌∙◌}
+use native.Mathlib.Omega.{arith}
 use mathlib.Core.List.{List, [], ◌∷◌}
 use borrow.Author.Tests.{eq-eqb, ne_eqb}
 use Rattle.cells.specs.Test.{Answer, took, refused}
-use Rattle.cells.specs.Writing.{Writes}
-use Rattle.days.specs.declared.Run.{Run}
+use Rattle.std.specs.Prelude.{Result, Ok, Err}
+use Rattle.cells.specs.Writing.{Writes as Writer}
+use Rattle.cells.specs.declared.Fault.{Fault}
+use Rattle.days.specs.Run.{Run, told_run}
+use Rattle.days.specs.declared.DaySet.{DaySet}
+use Rattle.days.specs.declared.Halt.{Halt}
 use Rattle.plain.specs.Held.{unless0}
-use Rattle.code_calls.specs.Calls.{Reads, ReadsRun}
+use Rattle.code_calls.specs.Calls.{Reads, Writes, ReadsRun}
 
 -- A code that was read: one that is taken is told as its numbers,
 module _ {A : Type 0} {numbers_of : A → List ℕ} {answer : Answer A} (before : List ℕ) where
@@ -20,31 +25,26 @@ module _ {A : Type 0} {numbers_of : A → List ℕ} {answer : Answer A} (before 
   reads_refused h = record { returns = rw h; places = rw h; leaves = rw h }
 
 -- A code that was written, put where it is lent: what the writer promises holds of the array,
-module _ {A : Type 0} {read : List ℕ → Answer A} {blank before code : List ℕ} {x : A} {n : ℕ} (w : Writes A read blank x n code) where
-  pub written : n ≡ 0 → Writes A read before x n code
-  written z = record { reads = w.reads; refuses = λ y. absurd (y z) }
+module _ {A : Type 0} {read : List ℕ → Answer A} {x y : A} {r : Result (List ℕ) Fault} (e : y ≡ x) (w : Writer A read y r) (before : List ℕ) where
+  pub written : (code : List ℕ) → r ≡ Ok code → Writes A read before x 0 code
+  written code h = record { reads = λ z. w.reads code h ∙ ap took e; refuses = λ z. absurd (z refl) }
 
   -- which a refusal leaves as it was.
-  pub unwritten : (n ≡ 0 → ⊥) → Writes A read before x n before
-  unwritten z = record { reads = λ y. absurd (z y); refuses = λ y. let r = w.refuses y in (r.0, refl, r.2) }
+  pub unwritten : (f : Fault) → r ≡ Err f → Writes A read before x f.number before
+  unwritten f h =
+      let n = w.refuses f h in
+      record {
+        reads = λ z. absurd (let k : 35 ≡ 0 = sym (ap (λ (g : Fault). g.number) n.0) ∙ z in omega arith);
+        refuses = λ z. (ap (λ (g : Fault). g.number) n.0, refl, λ s k. n.1 s (k ∙ ap took (sym e)));
+      }
 
 -- A run that was read: its days go into the masks,
-module _ (run told : Run) (e : told ≡ run) (before : List ℕ) where
-  pub run_taken : told.number ≡ 0 → ReadsRun run before told.number (told.place ∷ told.code ∷ []) told.days.cells
+module _ (run : Run) (told : Result DaySet Halt) (e : told_run told ≡ run) (before : List ℕ) where
+  pub run_taken : (d : DaySet) → told ≡ Ok d → ReadsRun run before 0 (0 ∷ 0 ∷ []) d.cells
   unfolding unless0
-  run_taken z =
-      record {
-        returns = λ i. (e i).number;
-        refuses = λ i. (e i).place ∷ (e i).code ∷ [];
-        leaves = rw (← e, eq-eqb told.number 0 z);
-      }
+  run_taken d h = rw (← e, h) (record { returns = refl; refuses = refl; leaves = refl })
 
   -- and a refusal leaves them as they were.
-  pub run_refused : (told.number ≡ 0 → ⊥) → ReadsRun run before told.number (told.place ∷ told.code ∷ []) before
+  pub run_refused : (h : Halt) → told ≡ Err h → (h.number ≡ 0 → ⊥) → ReadsRun run before h.number (h.place ∷ h.code ∷ []) before
   unfolding unless0
-  run_refused z =
-      record {
-        returns = λ i. (e i).number;
-        refuses = λ i. (e i).place ∷ (e i).code ∷ [];
-        leaves = rw (← e, ne_eqb told.number 0 z);
-      }
+  run_refused h k z = rw (← e, k, ne_eqb h.number 0 z) (record { returns = refl; refuses = refl; leaves = refl })

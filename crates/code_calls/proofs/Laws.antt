@@ -7,9 +7,7 @@ use mathlib.Core.List.{List}
 use borrow.Author.Tests.{eqb-true, eqb-false}
 use lib.Dec.{eqb}
 use Rattle.cells.specs.Test.{Answer, took}
-use Rattle.cells.specs.Writing.{Writes}
 use Rattle.cells.proofs.Split.{split}
-use Rattle.cells.proofs.Writing as writing
 use Rattle.usage.specs.Usage.{read_usage}
 use Rattle.usage.specs.declared.Instruction.{Instruction}
 use Rattle.usage_writer.specs.Print.{raw as raw_usage}
@@ -23,19 +21,33 @@ use Rattle.days_writer.proofs.Laws.{one_written}
 use Rattle.plain.specs.Codes.{usage_numbers, instruction_of, supplement_numbers, supplement_of}
 use Rattle.plain.proofs.Read.{usage_held, supplement_held}
 use Rattle.code_calls.specs.Answers.{number, or_count}
-use Rattle.code_calls.specs.Calls.{TellsSet}
+use Rattle.code_calls.specs.Calls.{Writes, TellsSet}
 use Rattle.std.specs.Prelude.{Result, ℕ}
 use Rattle.cells.specs.declared.Fault.{Fault}
+
+-- two answers to writing a code that meet its statement are equal, once for both kinds of code
+module _ (A : Type 0) (read : List ℕ → Answer A) (before : List ℕ) (raw : A → List ℕ) (back : (s : List ℕ) (x : A) → read s ≡ took x → raw x ≡ s) where
+  one_array : (x : A) (n m : ℕ) (c d : List ℕ) → Writes A read before x n c → Writes A read before x m d → (n ≡ m) × (c ≡ d)
+  one_array x n m c d v w =
+      split (eqb n 0)
+      (λ a. split (eqb m 0)
+      (λ b. (eqb-true n 0 a ∙ sym (eqb-true m 0 b), sym (back c x (v.reads (eqb-true n 0 a))) ∙ back d x (w.reads (eqb-true m 0 b))))
+      (λ b. absurd ((w.refuses (eqb-false m 0 b)).2 c (v.reads (eqb-true n 0 a)))))
+      (λ a. split (eqb m 0)
+      (λ b. absurd ((v.refuses (eqb-false n 0 a)).2 d (w.reads (eqb-true m 0 b))))
+      (λ b. let p = v.refuses (eqb-false n 0 a) in
+      let q = w.refuses (eqb-false m 0 b) in
+      (p.0 ∙ sym q.0, p.1 ∙ sym q.1)))
 
 -- writing a usage code
 pub one_usage : (before : List ℕ) (i : Instruction) (n m : ℕ) (c d : List ℕ) →
     Writes Instruction read_usage before i n c → Writes Instruction read_usage before i m d → (n ≡ m) × (c ≡ d)
-one_usage before = writing.one_written Instruction read_usage before raw_usage usage_back
+one_usage before = one_array Instruction read_usage before raw_usage usage_back
 
 -- writing a supplementary code
 pub one_supplement : (before : List ℕ) (x : Supplement) (n m : ℕ) (c d : List ℕ) →
     Writes Supplement read_supplement before x n c → Writes Supplement read_supplement before x m d → (n ≡ m) × (c ≡ d)
-one_supplement before = writing.one_written Supplement read_supplement before raw_supplement supplement_back
+one_supplement before = one_array Supplement read_supplement before raw_supplement supplement_back
 
 -- writing the run for a set
 pub one_set : (issue : ℕ) (cells before a b : List ℕ) (n m counted k l : ℕ) →

@@ -1,10 +1,10 @@
 -- What each call returns, and what it leaves in the lent arrays: document 01's number; "a refusal returns only its numbers; lent bytes stay".
 -- Assumes nothing.
 use Rattle.std.specs.Prelude.{ℕ, ◌≡◌, List, [], ◌∷◌, Result}
-use Rattle.cells.specs.Test.{Answer}
+use Rattle.cells.specs.Test.{Answer, took}
 use Rattle.date.specs.declared.Date.{Date}
 use Rattle.days_writer.specs.Set.{WritesSet, said}
-use Rattle.days.specs.declared.Run.{Run}
+use Rattle.days.specs.Run.{Run}
 use Rattle.plain.specs.Held.{unless0}
 use Rattle.code_calls.specs.Answers.{number, place, or_before, or_count, date_numbers, date_text}
 use Rattle.cells.specs.declared.Fault.{Fault}
@@ -14,6 +14,11 @@ pub record Reads (A : Type 0) (numbers_of : A → List ℕ) (answer : Answer A) 
   pub returns : returned ≡ number answer
   pub places : placed ≡ place answer
   pub leaves : after ≡ or_before numbers_of answer before
+
+-- Writing a code: what is returned, and the array after it: 0, and a code that reads as the record; or 35, the array as it was, and no code reads as the record.
+pub record Writes (A : Type 0) (read : List ℕ → Answer A) (before : List ℕ) (x : A) (returned : ℕ) (after : List ℕ) : Type 0 where
+  pub reads : returned ≡ 0 → read after ≡ took x
+  pub refuses : (returned ≡ 0 → ⊥) → (returned ≡ 35) × (after ≡ before) × ((s : List ℕ) → read s ≡ took x → ⊥)
 
 -- Reading a run: its place and the code's number, and the masks after it.
 pub record ReadsRun (run : Run) (before : List ℕ) (returned : ℕ) (refusal after : List ℕ) : Type 0 where

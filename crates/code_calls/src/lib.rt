@@ -3,7 +3,6 @@
 #![tactic(auto)]
 
 ghost use Rattle.std.specs.Prelude.{◌≡◌};
-ghost use Rattle.cells.specs.Writing.{Writes};
 ghost use Rattle.usage.specs.Usage.{read_usage};
 ghost use Rattle.usage.specs.declared.Instruction.{Instruction};
 ghost use Rattle.supplement.specs.Supplement.{read_supplement};
@@ -13,7 +12,7 @@ ghost use Rattle.days_writer.specs.Set.{said};
 ghost use Rattle.date.specs.Date.{said as said_date};
 ghost use Rattle.plain.specs.Codes.{usage_numbers, instruction_of, supplement_numbers, supplement_of};
 ghost use Rattle.code_calls.specs.Answers.{number, or_before, or_count, make_styled, date_numbers, date_text};
-ghost use Rattle.code_calls.specs.Calls.{Reads, ReadsRun, TellsSet, Makes};
+ghost use Rattle.code_calls.specs.Calls.{Reads, ReadsRun, TellsSet, Makes, Writes};
 
 use cells::Fault;
 use date::Date;
@@ -43,13 +42,13 @@ pub fn usage_read(code: &[u8], numbers: &mut [u64; USAGE], place: &mut u64) -> u
 pub fn usage_write(numbers: &[u64; USAGE], code: &mut [u8; 16]) -> u16
     ensures { Writes Instruction read_usage code.old (instruction_of numbers.now) result code.new }
 {
-    let i = plain::instruction(numbers);
-    let u = usage_writer::write(i);
-    if u.number == 0 {
-        let written = u.code;
-        *code = written;
+    match usage_writer::write(plain::instruction(numbers)) {
+        Ok(written) => {
+            *code = written;
+            0
+        }
+        Err(f) => f.number,
     }
-    u.number
 }
 
 // ---- supplementary codes
@@ -64,9 +63,9 @@ pub fn supplement_read(code: &[u8], numbers: &mut [u64; SUPPLEMENT], place: &mut
             plain::put_supplement(x, numbers);
             0
         }
-        Err(f) => {
-            *place = f.place as u64;
-            f.number
+        Err(e) => {
+            *place = e.place as u64;
+            e.number
         }
     }
 }
@@ -75,13 +74,13 @@ pub fn supplement_read(code: &[u8], numbers: &mut [u64; SUPPLEMENT], place: &mut
 pub fn supplement_write(numbers: &[u64; SUPPLEMENT], code: &mut [u8; 8]) -> u16
     ensures { Writes Supplement read_supplement code.old (supplement_of numbers.now) result code.new }
 {
-    let x = plain::supplement(numbers);
-    let s = supplement_writer::write(x);
-    if s.number == 0 {
-        let written = s.code;
-        *code = written;
+    match supplement_writer::write(plain::supplement(numbers)) {
+        Ok(written) => {
+            *code = written;
+            0
+        }
+        Err(f) => f.number,
     }
-    s.number
 }
 
 // ---- runs and sets of days
@@ -110,13 +109,17 @@ fn count_after(w: Result<usize, Fault>, before: u64) -> u64
 pub fn run_read(issue: u8, codes: &[u8], days: &mut [u32; 13], refusal: &mut [u64; 2]) -> u16
     ensures { ReadsRun (read_run issue codes.now) days.old result refusal.new days.new }
 {
-    let run = days::read_run(issue, codes);
-    *refusal = [run.place as u64, run.code as u64];
-    if run.number == 0 {
-        let cells = run.days.cells;
-        *days = cells;
+    match days::read_run(issue, codes) {
+        Ok(set) => {
+            *refusal = [0; 2];
+            *days = set.cells;
+            0
+        }
+        Err(h) => {
+            *refusal = [h.place as u64, h.code as u64];
+            h.number
+        }
     }
-    run.number
 }
 
 // Writes the run for a set of days.
@@ -166,10 +169,10 @@ fn made_text(m: Result<Date, Fault>, before: [u8; 8]) -> [u8; 8]
     ensures { result ≡ or_before date_text (said_date m) before }
 {
     match m {
-        Ok(t) => {
-            let text = date::print(t);
-            text.bytes
-        }
+        Ok(t) => match date::print(t) {
+            Some(text) => text.bytes,
+            None => [0; 8],
+        },
         Err(_) => before,
     }
 }

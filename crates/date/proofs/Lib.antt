@@ -1,4 +1,5 @@
 pub mod Digits
 pub mod Eras
 pub mod Style
+pub mod Printed
 pub mod Laws

@@ -7,10 +7,11 @@ use mathlib.Core.List.{List, [], ◌∷◌, ◌++◌}
 use native.Mathlib.Omega.{arith}
 use lib.Dec.{eqb}
 use lib.ListN.{length}
-use Rattle.std.specs.Prelude.{Result}
+use Rattle.std.specs.Prelude.{Result, Ok, Err}
+use borrow.Author.Tests.{eqb-false}
 use Rattle.cells.proofs.Split.{split}
 use Rattle.cells.proofs.Alike.{and_left, and_right}
-use Rattle.days.specs.Run.{Code, follows, allowed, Stop, stop, codes_of, set_of, concluded, a_month, answers_in, read_run, answered, told_run}
+use Rattle.days.specs.Run.{Run, Code, follows, allowed, Stop, stop, codes_of, set_of, concluded, a_month, answers_in, read_run, answered, told_run}
 use Rattle.days.specs.declared.DaySet.{DaySet}
 use Rattle.days.specs.declared.Halt.{Halt}
 use Rattle.days.proofs.Under.{and_intro}
@@ -42,3 +43,13 @@ told issue s r e =
 -- two answers to reading are equal: each is what `read_run` says
 pub one_answer : (issue : ℕ) (s : List ℕ) (r q : Result DaySet Halt) → r ≡ answered (read_run issue s) → q ≡ answered (read_run issue s) → r ≡ q
 one_answer issue s r q e f = e ∙ sym f
+
+-- a refusal has a number
+pub refused_number : (w : Run) (r : Result DaySet Halt) → r ≡ answered w → (h : Halt) → r ≡ Err h → h.number ≡ 0 → ⊥
+refused_number w r e h k z =
+    split (eqb w.number 0)
+    (λ n. let q : ◌≡◌ {A = Result DaySet Halt} (Ok w.days) (Err h) = sym (rw n at e) ∙ k in let y : ◌≡◌ {A = ℕ} 0 1 = cc in omega arith)
+    (λ n.
+    let q : ◌≡◌ {A = Result DaySet Halt} (Err (record { number = w.number; place = w.place; code = w.code })) (Err h) = sym (rw n at e) ∙ k in
+    let i : w.number ≡ h.number = cc in
+    eqb-false _ _ n (i ∙ z))

@@ -462,8 +462,7 @@ fn wrong(
 ) -> u16
     ensures { result ≡ wrong_in c.last (context c.before) lent.now n (laid kinds.now numbers.now from.now to.now own.now) }
 {
-    let verdict = order::follow(c.last, n);
-    if verdict != 0 {
+    if let Err(verdict) = order::follow(c.last, n) {
         return verdict;
     }
     if row::typed(n) {

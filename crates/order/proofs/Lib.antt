@@ -8,3 +8,4 @@ pub mod Whole
 pub mod Parse
 pub mod Help
 pub mod Laws
+pub mod Standing

@@ -44,7 +44,6 @@ module _ (t : Date) where
       omega arith
 
   -- the characters without the 0 bytes after them
-  pub cut : (x : Text) → x ≡ text (print_date t) → take (x.length - 0) x.bytes ≡ print_date t
+  pub cut : (x : Text) → x ≡ text (print_date t) → take x.length x.bytes ≡ print_date t
   cut x e =
-      let z : length (print_date t) - 0 ≡ length (print_date t) = omega arith in
-      ap (λ (y : Text). take (y.length - 0) y.bytes) e ∙ rw z (take-append_seam (print_date t) (replicate (8 - length (print_date t)) 0))
+      ap (λ (y : Text). take y.length y.bytes) e ∙ take-append_seam (print_date t) (replicate (8 - length (print_date t)) 0)

@@ -118,13 +118,10 @@ pub fn amount(n: u64) -> Piece
 pub fn day(t: Date) -> Piece
     ensures { result ≡ piece (date_field t) }
 {
-    let d = date::print(t);
-    let n = d.length as usize;
-    if n == 0 {
-        return nothing();
+    match date::print(t) {
+        Some(text) => copied(&text.bytes[..text.length as usize]),
+        None => nothing(),
     }
-    let bytes = d.bytes;
-    copied(&bytes[0..n])
 }
 
 // The field of an instruction, which is a usage code.

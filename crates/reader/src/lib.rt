@@ -59,8 +59,7 @@ pub fn open(s: &[u8]) -> State
     if 16384 < s.len() {
         return opened(20, 0);
     }
-    let f = line::frame_fault(s);
-    if f.number != 0 {
+    if let Err(f) = line::frame_fault(s) {
         return opened(21, f.place);
     }
     if is_version(s) {

@@ -96,27 +96,23 @@ module _ (last-number : ℕ) (c : Context) (s : List ℕ) (at : ℕ) where
 
 -- What a line begins with, by what its number is told.
 module _ (last : ℕ) (s : List ℕ) (at : ℕ) where
-  abbrev head : ℕ → ℕ → ℕ → Head
-  head v n from = record { refusal = v; number = n; from = from }
-
   -- a refusal before the fields
-  stopped : (v : ℕ) → (v ≡ 0 → ⊥) → ((c : Context) → refused_line (sofar last c) (refusal v at) ≡ line_at last c s at) →
-      Heads last s at (head v 0 0)
-  stopped v z f = record { line = λ c. rw (ne_eqb v 0 z) (f c); inside = λ y. absurd (z y) }
+  stopped : (f : Refusal) → ((c : Context) → refused_line (sofar last c) f ≡ line_at last c s at) → Heads last s at (Err f)
+  stopped f l = record { line = l; inside = λ h e. absurd (let z : ◌≡◌ {A = ℕ} 0 1 = cc in omega arith) }
 
-  pub head_nowhere : length s < at → Heads last s at (head 23 0 0)
-  head_nowhere h = stopped 23 (λ z. omega arith) (λ c. nowhere last c s at h)
+  pub head_nowhere : length s < at → Heads last s at (Err (refusal 23 at))
+  head_nowhere h = stopped _ (λ c. nowhere last c s at h)
 
   module _ (h : at ≤ length s) (e : ℕ) (q : e ≡ field_end s at) (n : ℕ) (g : n ≡ number_in (read_number 1 999 (slice at e s))) (v : ℕ) (f : v ≡ follow last n) where
-    pub head_refused : (v ≡ 0 → ⊥) → Heads last s at (head v 0 0)
-    head_refused z = stopped v z (λ c. refused_number last c s at h e q n g v f z)
+    pub head_refused : (v ≡ 0 → ⊥) → Heads last s at (Err (refusal v at))
+    head_refused z = stopped _ (λ c. refused_number last c s at h e q n g v f z)
 
-    pub head_bare : v ≡ 0 → line_ends s e ≡ true → Heads last s at (head 25 0 0)
-    head_bare z l = stopped 25 (λ y. omega arith) (λ c. no_fields last c s at h e q n g v f z l)
+    pub head_bare : v ≡ 0 → line_ends s e ≡ true → Heads last s at (Err (refusal 25 at))
+    head_bare z l = stopped _ (λ c. no_fields last c s at h e q n g v f z l)
 
-    pub head_fields : v ≡ 0 → line_ends s e ≡ false → Heads last s at (head 0 n (e + 1))
+    pub head_fields : v ≡ 0 → line_ends s e ≡ false → Heads last s at (Ok (record { number = n; from = e + 1 }))
     head_fields z l =
         record {
           line = λ c. with_fields last c s at h e q n g v f z l;
-          inside = λ y. more_fit s at h e q l;
+          inside = λ k y. let x : e + 1 ≡ k.from = (let u : ◌≡◌ {A = Result Head Refusal} (Ok (record { number = n; from = e + 1 })) (Ok k) = y in cc) in omega (arith, more_fit s at h e q l);
         }

@@ -74,19 +74,13 @@ fn date_at(s: &[u8], p: Place) -> Date
 fn usage_at(s: &[u8], p: Place) -> Option<Instruction>
     ensures { result ≡ usage_in (read_usage (text_at s.now p)) }
 {
-    match usage::read(record::text(s, p)) {
-        Ok(i) => Some(i),
-        Err(_) => None,
-    }
+    usage::read(record::text(s, p)).ok()
 }
 
 fn supplement_at(s: &[u8], p: Place) -> Option<Supplement>
     ensures { result ≡ supplement_in (read_supplement (text_at s.now p)) }
 {
-    match supplement::read(record::text(s, p)) {
-        Ok(x) => Some(x),
-        Err(_) => None,
-    }
+    supplement::read(record::text(s, p)).ok()
 }
 
 fn record_51(s: &[u8], from: usize, ends: &[usize; row::WIDE]) -> Record
@@ -272,41 +266,32 @@ fn record_number(f: &[u8]) -> u16
     }
 }
 
-// What a line begins with: the refusal's number, or 0 and the record's number, and where its first field begins.
+// What a line begins with: the record's number, and where its first field begins.
 #[derive(Clone, Copy)]
 struct Head {
-    refusal: u16,
     number: u16,
     from: usize,
 }
 
-fn head_with(refusal: u16, number: u16, from: usize) -> Head
-    ensures { result ≡ record { refusal = refusal; number = number; from = from } }
-{
-    Head {
-        refusal: refusal,
-        number: number,
-        from: from,
-    }
-}
-
 // The tests of a line before those of its fields, after a record of the number `last`: 23, 24, 32, and 25 where it has none.
-fn read_head(last: u16, s: &[u8], at: usize) -> Head
+fn read_head(last: u16, s: &[u8], at: usize) -> Result<Head, Refusal>
     ensures { Heads last s.now at result }
 {
     if s.len() < at {
-        return head_with(23, 0, 0);
+        return Err(refused_at(23, at));
     }
     let end = line::field_end(s, at);
     let n = record_number(&s[at..end]);
-    let verdict = order::follow(last, n);
-    if verdict != 0 {
-        return head_with(verdict, 0, 0);
+    if let Err(verdict) = order::follow(last, n) {
+        return Err(refused_at(verdict, at));
     }
     if line::line_ends(s, end) {
-        return head_with(25, 0, 0);
+        return Err(refused_at(25, at));
     }
-    head_with(0, n, end + 1)
+    Ok(Head {
+        number: n,
+        from: end + 1,
+    })
 }
 
 // The fields of the record at a place, of which the first begins at `from`, where they are right.
@@ -337,11 +322,10 @@ fn read_fields(c: Sofar, s: &[u8], at: usize, n: u16, from: usize) -> Line
 pub fn read(c: Sofar, s: &[u8], at: usize) -> Line
     ensures { result ≡ line_at c.last (context c.before) s.now at }
 {
-    let h = read_head(c.last, s, at);
-    if h.refusal != 0 {
-        return refused_line(c, refused_at(h.refusal, at));
+    match read_head(c.last, s, at) {
+        Ok(h) => read_fields(c, s, at, h.number, h.from),
+        Err(f) => refused_line(c, f),
     }
-    read_fields(c, s, at, h.number, h.from)
 }
 
 fn pass_fields(c: Sofar, s: &[u8], at: usize, n: u16, from: usize) -> Result<Onward, Refusal>
@@ -368,9 +352,6 @@ fn pass_fields(c: Sofar, s: &[u8], at: usize, n: u16, from: usize) -> Result<Onw
 pub fn pass(c: Sofar, s: &[u8], at: usize) -> Result<Onward, Refusal>
     ensures { result ≡ passed_of (line_at c.last (context c.before) s.now at) }
 {
-    let h = read_head(c.last, s, at);
-    if h.refusal != 0 {
-        return Err(refused_at(h.refusal, at));
-    }
+    let h = read_head(c.last, s, at)?;
     pass_fields(c, s, at, h.number, h.from)
 }

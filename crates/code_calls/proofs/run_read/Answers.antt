@@ -1,11 +1,11 @@
 -- By whether the run is taken.
+use Rattle.std.proofs.Common.{◌∙◌}
+use Rattle.days.proofs.Laws.{told, refused_number}
 use Rattle.code_calls.proofs.Kept.{run_taken, run_refused}
 use Rattle.code_calls.proofs.run_read.Goals as goal
 
-pub returns-then-run-eq0 : goal.returns-then-run-eq0
-returns-then-run-eq0 c =
-    run_taken _ _ c.read_run-run.ensures _ c.if-run-eq0.true
+pub returns-in-Ok : goal.returns-in-Ok
+returns-in-Ok c = let a = c.args in run_taken _ _ (told a.issue a.codes.now _ c.read_run.ensures) _ _ c.in-Ok.is
 
-pub returns-else-run-eq0 : goal.returns-else-run-eq0
-returns-else-run-eq0 c =
-    run_refused _ _ c.read_run-run.ensures _ c.if-run-eq0.false
+pub returns-in-Err : goal.returns-in-Err
+returns-in-Err c = let a = c.args in run_refused _ _ (told a.issue a.codes.now _ c.read_run.ensures) _ _ c.in-Err.is (refused_number _ _ c.read_run.ensures _ c.in-Err.is)

@@ -2,12 +2,8 @@
 use Rattle.code_calls.proofs.Kept.{written, unwritten}
 use Rattle.code_calls.proofs.supplement_write.Goals as goal
 
-pub returns-then-s-eq0 : goal.returns-then-s-eq0
-returns-then-s-eq0 c =
-    let w = c.write-s in
-    written (rw c.supplement-x.ensures at w.ensures) c.if-s-eq0.true
+pub returns-in-Ok : goal.returns-in-Ok
+returns-in-Ok c = written c.supplement.ensures c.write.ensures _ _ c.in-Ok.is
 
-pub returns-else-s-eq0 : goal.returns-else-s-eq0
-returns-else-s-eq0 c =
-    let w = c.write-s in
-    unwritten (rw c.supplement-x.ensures at w.ensures) c.if-s-eq0.false
+pub returns-in-Err : goal.returns-in-Err
+returns-in-Err c = unwritten c.supplement.ensures c.write.ensures _ _ c.in-Err.is

@@ -2,12 +2,8 @@
 use Rattle.code_calls.proofs.Kept.{written, unwritten}
 use Rattle.code_calls.proofs.usage_write.Goals as goal
 
-pub returns-then-u-eq0 : goal.returns-then-u-eq0
-returns-then-u-eq0 c =
-    let w = c.write-u in
-    written (rw c.instruction-i.ensures at w.ensures) c.if-u-eq0.true
+pub returns-in-Ok : goal.returns-in-Ok
+returns-in-Ok c = written c.instruction.ensures c.write.ensures _ _ c.in-Ok.is
 
-pub returns-else-u-eq0 : goal.returns-else-u-eq0
-returns-else-u-eq0 c =
-    let w = c.write-u in
-    unwritten (rw c.instruction-i.ensures at w.ensures) c.if-u-eq0.false
+pub returns-in-Err : goal.returns-in-Err
+returns-in-Err c = unwritten c.instruction.ensures c.write.ensures _ _ c.in-Err.is

@@ -1,22 +1,19 @@
 -- By what the line begins with, then by its fields.
-use mathlib.Core.Path.{ap, ◌∙◌}
-use borrow.Author.Tests.{eq-eqb, ne_eqb}
+use Rattle.std.proofs.Common.{rules, ◌≡◌, Err, ap, ◌∙◌}
 use Rattle.field.specs.Field.{context}
 use Rattle.record_line.specs.Line.{passed_of}
-use Rattle.std.specs.Prelude.{Err}
 use Rattle.record_line.proofs.pass.Goals as goal
 
-pub returns-then-h-ne0 : goal.returns-then-h-ne0
-returns-then-h-ne0 c =
-    let a = c.args in
-    let h = c.read_head-h.ensures.line (context a.c.before) in
-    ap Err c.refused_at.ensures ∙ ap passed_of (rw (ne_eqb _ _ c.if-h-ne0.true) at h)
-
 pub pass_fields-requires : goal.pass_fields-requires
-pass_fields-requires c = c.read_head-h.ensures.inside c.if-h-ne0.false
+pass_fields-requires c = c.read_head.ensures.inside _ c.in_ok-h.was
+
+pub returns-in_err-h : goal.returns-in_err-h
+returns-in_err-h c =
+    let a = c.args in
+    let e : c.from_residual.result ≡ Err c.in_err-h.field-0.0 = search rules in
+    e ∙ ap passed_of (rw c.in_err-h.was at (c.read_head.ensures.line (context a.c.before)))
 
 pub returns : goal.returns
 returns c =
     let a = c.args in
-    let h = c.read_head-h.ensures.line (context a.c.before) in
-    c.pass_fields.ensures ∙ ap passed_of (rw (eq-eqb _ 0 c.if-h-ne0.false) at h)
+    c.pass_fields.ensures ∙ ap passed_of (rw c.in_ok-h.was at (c.read_head.ensures.line (context a.c.before)))

@@ -1,21 +1,18 @@
 -- By what the line begins with, then by its fields.
 use mathlib.Core.Path.{ap, ◌∙◌}
-use borrow.Author.Tests.{eq-eqb, ne_eqb}
 use Rattle.field.specs.Field.{context}
-use Rattle.record_line.specs.Code.Built.{refused_line}
+use Rattle.record_line.specs.Code.Built.{refused_line, headed_line}
 use Rattle.record_line.proofs.read.Goals as goal
 
-pub returns-then-h-ne0 : goal.returns-then-h-ne0
-returns-then-h-ne0 c =
-    let a = c.args in
-    let h = c.read_head-h.ensures.line (context a.c.before) in
-    c.refused_line.ensures ∙ ap (refused_line a.c) c.refused_at.ensures ∙ (rw (ne_eqb _ _ c.if-h-ne0.true) at h)
-
 pub read_fields-requires : goal.read_fields-requires
-read_fields-requires c = c.read_head-h.ensures.inside c.if-h-ne0.false
+read_fields-requires c = c.read_head.ensures.inside _ c.in-Ok.is
 
-pub returns : goal.returns
-returns c =
+pub returns-in-Ok : goal.returns-in-Ok
+returns-in-Ok c =
     let a = c.args in
-    let h = c.read_head-h.ensures.line (context a.c.before) in
-    c.read_fields.ensures ∙ (rw (eq-eqb _ 0 c.if-h-ne0.false) at h)
+    c.read_fields.ensures ∙ (rw c.in-Ok.is at (c.read_head.ensures.line (context a.c.before)))
+
+pub returns-in-Err : goal.returns-in-Err
+returns-in-Err c =
+    let a = c.args in
+    c.refused_line.ensures ∙ (rw c.in-Err.is at (c.read_head.ensures.line (context a.c.before)))

@@ -1,13 +1,13 @@
 -- Records built from what was read of their fields.
 -- Assumes nothing.
-use Rattle.std.specs.Prelude.{ℕ, ◌+◌, ◌-◌, ◌≤◌, ◌<◌, ◌^◌, ◌≡◌, cond, List, eqb, length, get_or, Err, Ok}
+use Rattle.std.specs.Prelude.{ℕ, ◌+◌, ◌-◌, ◌≤◌, ◌<◌, ◌^◌, ◌≡◌, cond, List, eqb, length, get_or, Err, Ok, Result}
 use Rattle.line.specs.Fields.{fields_at}
 use Rattle.field.specs.Field.{Context}
 use Rattle.field.specs.declared.Before.{Before}
 use Rattle.row.specs.Row.{read_row, zeros, numbers_of, amounts_of, ends_of}
 use Rattle.row.specs.declared.Row.{Row}
 use Rattle.record.specs.Record.{text_at, Source, record_from, leaves, after}
-use Rattle.record_line.specs.Line.{refusal, row_refusal, line_at}
+use Rattle.record_line.specs.Line.{row_refusal, line_at}
 use Rattle.record.specs.declared.Place.{Place}
 use Rattle.record.specs.declared.Record.{Record}
 use Rattle.record.specs.declared.Sofar.{Sofar}
@@ -71,14 +71,14 @@ fields_line last c s at n from =
     (refused_line (sofar last c) (row_refusal at (read_row c n from (fields_at s from))))
 
 -- The line from what it begins with.
-abbrev pub headed_line : ℕ → Context → List ℕ → ℕ → Head → Line
-headed_line last c s at h =
-    cond (eqb h.refusal 0) (fields_line last c s at h.number h.from) (refused_line (sofar last c) (refusal h.refusal at))
+abbrev pub headed_line : ℕ → Context → List ℕ → ℕ → Result Head Refusal → Line
+headed_line last c s at (Ok h) = fields_line last c s at h.number h.from
+headed_line last c s at (Err f) = refused_line (sofar last c) f
 
 -- What a line begins with: from it the line is read as document 01 says, after any records of which the last has that number.
-pub record Heads (last : ℕ) (s : List ℕ) (at : ℕ) (h : Head) : Type 0 where
-  pub line : (c : Context) → headed_line last c s at h ≡ line_at last c s at
-  pub inside : h.refusal ≡ 0 → h.from ≤ length s
+pub record Heads (last : ℕ) (s : List ℕ) (at : ℕ) (r : Result Head Refusal) : Type 0 where
+  pub line : (c : Context) → headed_line last c s at r ≡ line_at last c s at
+  pub inside : (h : Head) → r ≡ Ok h → h.from ≤ length s
 
 -- What a record leaves that is built so: nothing of the amounts, nor of where the fields of a kept one end.
 abbrev pub Leaves : Before → ℕ → List ℕ → ℕ → List ℕ → List ℕ → Before → Type 0
