@@ -52,7 +52,8 @@ pub fn sheet(rt: &impl Print, s: &[u8]) -> Result<usize, Refusal>
     r
 }
 
-// Record by record, through the sheet that carries its file; one that is taken ends with no refusal. The room is that of the longest run of date codes, 67 of them.
+// Record by record, through the sheet that carries its file; one that is taken ends with no refusal. The room is that of the longest run of date
+// codes, 67 of them.
 fn labels(rt: &impl Print, s: &[u8]) -> Result<(), Refusal> {
     let mut t = sheet::begin(s);
     let mut codes = [0u8; 536];
