@@ -1,272 +1,199 @@
 // Answers in words, on standard output.
 use cells::Fault;
 use date::Date;
-use days::DaySet;
+use days::{DaySet, Run};
 use supplement::{Days, Supplement, Week};
 use usage::{Event, Hours, Instruction, Occasions};
 
 pub fn words(rt: &impl Print, text: &[u8]) {
-    streams::write_all(rt, text);
+    streams::write_all(rt, text)
 }
 
-pub fn number(rt: &impl Print, n: usize) {
-    streams::print_decimal(rt, n as u64);
-}
-
-fn letter(rt: &impl Print, c: u8) {
-    let one = [c];
-    words(rt, &one)
-}
-
-// A name and a number; a name and the character of a value; a name and an hour, `-` for none.
-fn named(rt: &impl Print, name: &[u8], n: u8) {
-    words(rt, name);
-    number(rt, n as usize)
-}
-
-fn character(rt: &impl Print, name: &[u8], v: u8) {
-    words(rt, name);
-    letter(rt, cells::letter(v))
-}
-
-fn hour(rt: &impl Print, name: &[u8], h: u8) {
-    if h == 24 {
-        words(rt, name);
-        return words(rt, b"-");
-    }
-    named(rt, name, h)
+// The character of a value.
+fn letter(v: u8) -> char {
+    char::from(cells::letter(v))
 }
 
 pub fn unknown(rt: &impl Print) {
     words(rt, b"unknown question")
 }
 
-pub fn refusal(rt: &impl Print, code: u16, place: usize) {
-    words(rt, b"refused ");
-    number(rt, code as usize);
-    words(rt, b" ");
-    number(rt, place)
+pub fn refusal(rt: &impl Print, f: Fault) {
+    streams::print(rt, format_args!("refused {} {}", f.number, f.place))
 }
 
 // Is a code that was read the one that is written for it?
 pub fn same(rt: &impl Print, yes: bool) {
-    if yes {
-        return words(rt, b"same");
-    }
-    words(rt, b"different")
+    words(rt, if yes { b"same" } else { b"different" })
 }
 
 // A date as it is written.
-fn day_text(rt: &impl Print, t: Date) {
-    let p = date::print(t);
-    let bytes = p.bytes;
-    let n = p.length as usize;
+pub fn date(rt: &impl Print, t: Date) {
+    let text = date::print(t);
     words(rt, b"taken ");
-    words(rt, first(&bytes, n));
-}
-
-pub fn made(rt: &impl Print, m: Result<Date, Fault>) {
-    match m {
-        Ok(t) => day_text(rt, t),
-        Err(f) => refusal(rt, f.number, f.place),
-    }
+    words(rt, first(&text.bytes, text.length as usize))
 }
 
 pub fn instruction(rt: &impl Print, i: Instruction) {
-    class(rt, i.class);
-    character(rt, b";detail=", i.detail);
-    named(rt, b";kind=", i.kind);
+    let class = if i.class == 1 { "oral" } else { "external" };
+    let detail = letter(i.detail);
+    streams::print(
+        rt,
+        format_args!("taken class={class};detail={detail};kind={}", i.kind),
+    );
     if i.kind == 5 {
-        let e = i.event;
-        return event(rt, e);
+        return event(rt, i.event);
     }
-    named(rt, b";times=", i.times);
-    timing(rt, i)
-}
-
-fn class(rt: &impl Print, n: u8) {
-    if n == 1 {
-        return words(rt, b"taken class=oral");
+    streams::print(rt, format_args!(";times={}", i.times));
+    match i.kind {
+        1 => meals(rt, i.occasions),
+        2 => hour(rt, "start", i.start),
+        3 => clock(rt, i.hours),
+        6 => outside(rt, i.occasions),
+        _ => streams::print(rt, format_args!(";about={}", letter(i.about))),
     }
-    words(rt, b"taken class=external")
-}
-
-fn timing(rt: &impl Print, i: Instruction) {
-    let o = i.occasions;
-    if i.kind == 1 {
-        return meals(rt, o);
-    }
-    if i.kind == 2 {
-        return hour(rt, b";start=", i.start);
-    }
-    if i.kind == 3 {
-        let h = i.hours;
-        return clock(rt, h);
-    }
-    if i.kind == 6 {
-        return outside(rt, o);
-    }
-    character(rt, b";about=", i.about)
 }
 
 fn meals(rt: &impl Print, o: Occasions) {
-    named(rt, b";bedtime=", o.bedtime);
-    named(rt, b";supper=", o.supper);
-    named(rt, b";lunch=", o.lunch);
-    named(rt, b";breakfast=", o.breakfast);
-    named(rt, b";waking=", o.waking);
-    if o.hour == 15 {
-        return words(rt, b";at15=1");
-    }
-    words(rt, b";at15=0")
+    let at15 = u8::from(o.hour == 15);
+    streams::print(
+        rt,
+        format_args!(
+            ";bedtime={};supper={};lunch={};breakfast={};waking={};at15={at15}",
+            o.bedtime, o.supper, o.lunch, o.breakfast, o.waking,
+        ),
+    )
 }
 
 fn outside(rt: &impl Print, o: Occasions) {
-    named(rt, b";bedtime=", o.bedtime);
-    character(rt, b";evening=", o.supper);
-    named(rt, b";noon=", o.lunch);
-    character(rt, b";morning=", o.breakfast);
-    named(rt, b";waking=", o.waking);
-    hour(rt, b";hour=", o.hour)
+    let evening = letter(o.supper);
+    let morning = letter(o.breakfast);
+    streams::print(
+        rt,
+        format_args!(
+            ";bedtime={};evening={evening};noon={};morning={morning};waking={}",
+            o.bedtime, o.lunch, o.waking,
+        ),
+    );
+    hour(rt, "hour", o.hour)
+}
+
+// An hour, `-` for none.
+fn hour(rt: &impl Print, name: &str, h: u8) {
+    if h == 24 {
+        return streams::print(rt, format_args!(";{name}=-"));
+    }
+    streams::print(rt, format_args!(";{name}={h}"))
 }
 
 fn event(rt: &impl Print, e: Event) {
-    character(rt, b";event=", e.group);
-    character(rt, b"", e.event);
-    character(rt, b";condition=", e.condition);
-    character(rt, b";interval=", e.interval);
-    character(rt, b";limit=", e.limit)
+    let (group, event) = (letter(e.group), letter(e.event));
+    let (condition, interval, limit) = (letter(e.condition), letter(e.interval), letter(e.limit));
+    streams::print(
+        rt,
+        format_args!(
+            ";event={group}{event};condition={condition};interval={interval};limit={limit}"
+        ),
+    )
 }
 
+// The hours, whatever they are at first, and then those that are there.
 fn clock(rt: &impl Print, h: Hours) {
-    named(rt, b";hours=", h.h1);
-    next_hour(rt, h.h2);
-    next_hour(rt, h.h3);
-    next_hour(rt, h.h4);
-    next_hour(rt, h.h5);
-    next_hour(rt, h.h6);
-    next_hour(rt, h.h7);
-    next_hour(rt, h.h8)
+    words(rt, b";hours=");
+    listed(rt, &[h.h1, h.h2, h.h3, h.h4, h.h5, h.h6, h.h7, h.h8], 24)
 }
 
-fn next_hour(rt: &impl Print, h: u8) {
-    if h != 24 {
-        named(rt, b",", h)
+// The first number, and each other that is not the one which stands for none, parted by commas.
+fn listed(rt: &impl Print, numbers: &[u8], none: u8) {
+    for (k, n) in numbers.iter().enumerate() {
+        if k == 0 {
+            streams::print(rt, *n);
+        } else if *n != none {
+            streams::print(rt, format_args!(",{n}"));
+        }
     }
 }
 
 pub fn supplement(rt: &impl Print, x: Supplement) {
-    words(rt, b"taken supplement=");
-    letter(rt, x.letter);
-    if x.letter == b'I' {
-        named(rt, b";on=", x.on);
-        return named(rt, b";off=", x.off);
+    streams::print(
+        rt,
+        format_args!("taken supplement={}", char::from(x.letter)),
+    );
+    match x.letter {
+        b'I' => streams::print(rt, format_args!(";on={};off={}", x.on, x.off)),
+        b'W' => week(rt, x.week),
+        b'D' => dates(rt, x.month, x.days),
+        b'C' => streams::print(
+            rt,
+            format_args!(";period={};count={}", char::from(x.period), x.count),
+        ),
+        _ => streams::print(
+            rt,
+            format_args!(
+                ";order={};digits={};places={}",
+                x.order, x.figures, x.places
+            ),
+        ),
     }
-    if x.letter == b'W' {
-        let w = x.week;
-        return week(rt, w);
-    }
-    if x.letter == b'D' {
-        named(rt, b";month=", x.month);
-        let d = x.days;
-        return dates(rt, d);
-    }
-    count_or_amount(rt, x)
-}
-
-fn count_or_amount(rt: &impl Print, x: Supplement) {
-    if x.letter == b'C' {
-        words(rt, b";period=");
-        letter(rt, x.period);
-        return named(rt, b";count=", x.count);
-    }
-    named(rt, b";order=", x.order);
-    words(rt, b";digits=");
-    number(rt, x.figures as usize);
-    named(rt, b";places=", x.places)
 }
 
 fn week(rt: &impl Print, w: Week) {
-    named(rt, b";days=", w.sunday);
-    named(rt, b",", w.monday);
-    named(rt, b",", w.tuesday);
-    named(rt, b",", w.wednesday);
-    named(rt, b",", w.thursday);
-    named(rt, b",", w.friday);
-    named(rt, b",", w.saturday)
+    streams::print(
+        rt,
+        format_args!(
+            ";days={},{},{},{},{},{},{}",
+            w.sunday, w.monday, w.tuesday, w.wednesday, w.thursday, w.friday, w.saturday,
+        ),
+    )
 }
 
-fn dates(rt: &impl Print, d: Days) {
-    named(rt, b";days=", d.d1);
-    next_day(rt, d.d2);
-    next_day(rt, d.d3);
-    next_day(rt, d.d4);
-    next_day(rt, d.d5);
-    next_day(rt, d.d6)
+fn dates(rt: &impl Print, month: u8, d: Days) {
+    streams::print(rt, format_args!(";month={month};days="));
+    listed(rt, &[d.d1, d.d2, d.d3, d.d4, d.d5, d.d6], 0)
 }
 
-fn next_day(rt: &impl Print, d: u8) {
-    if d != 0 {
-        named(rt, b",", d)
+// A run's days, or its refusal, with the code's place in the run for a code's own.
+pub fn run(rt: &impl Print, r: Run) {
+    if r.number == 0 {
+        return days(rt, r.days);
+    }
+    streams::print(rt, format_args!("refused {} {}", r.number, r.place));
+    if r.code != 0 {
+        streams::print(rt, format_args!(" code {}", r.code));
     }
 }
 
 // The cells of a set that have days, parted by `/`; there is at least one.
-pub fn days(rt: &impl Print, set: DaySet) {
+fn days(rt: &impl Print, set: DaySet) {
     words(rt, b"taken");
-    let mut mark: u8 = b' ';
-    let mut m: usize = 0;
-    while m < 13 {
-        let mask = set.cells[m];
-        mark = cell(rt, mark, m, mask);
-        m += 1;
+    let mut mark = ' ';
+    for (m, mask) in set.cells.iter().enumerate() {
+        if *mask != 0 {
+            streams::print(rt, format_args!("{mark}{m}"));
+            cell_days(rt, *mask);
+            mark = '/';
+        }
     }
-}
-
-// One cell after the mark that parts it from what stands before it; the mark before the next one.
-fn cell(rt: &impl Print, mark: u8, m: usize, mask: u32) -> u8 {
-    if mask == 0 {
-        return mark;
-    }
-    letter(rt, mark);
-    number(rt, m);
-    cell_days(rt, mask);
-    b'/'
 }
 
 fn cell_days(rt: &impl Print, mask: u32) {
-    let mut mark: u8 = b':';
-    let mut d: usize = 1;
-    let mut left = mask;
-    while d < 33 {
-        mark = day(rt, mark, d, left % 2);
-        left /= 2;
-        d += 1;
+    let mut mark = ':';
+    for bit in 0..32u32 {
+        if mask >> bit & 1 == 1 {
+            streams::print(rt, format_args!("{mark}{}", bit + 1));
+            mark = ',';
+        }
     }
-}
-
-fn day(rt: &impl Print, mark: u8, d: usize, bit: u32) -> u8 {
-    if bit == 0 {
-        return mark;
-    }
-    letter(rt, mark);
-    number(rt, d);
-    b','
 }
 
 // How many codes, and their characters.
 pub fn codes(rt: &impl Print, n: usize, codes: &[u8; 536]) {
-    words(rt, b"written ");
-    number(rt, n);
-    words(rt, b" ");
+    streams::print(rt, format_args!("written {n} "));
     if n <= 67 {
         words(rt, first(codes, 8 * n))
     }
 }
 
 fn first(codes: &[u8], n: usize) -> &[u8] {
-    if codes.len() < n {
-        return &codes[0..0];
-    }
-    &codes[0..n]
+    codes.get(..n).unwrap_or(&[])
 }

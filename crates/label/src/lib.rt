@@ -17,13 +17,16 @@ ghost use Rattle.reader.specs.File.{check_file};
 use date::Date;
 use days::DaySet;
 use printed::Piece;
-use record::{Place, Record, Record101, Record181, Record201, Refusal};
+use record::{Record, Record101, Record181, Record201, Refusal};
 use supplement::{Supplement, Week};
 
 // The columns of a drug's name, and of its amount with the space before it.
 const NAME: usize = 40;
 
 const AMOUNT: usize = 13;
+
+// The columns before the texts of a label.
+const LEFT: &[u8] = b"  ";
 
 // What the records so far leave for the label: whether one is begun, the issue date, and how many bytes of date codes wait.
 #[derive(Clone, Copy)]
@@ -40,38 +43,31 @@ pub fn sheet(rt: &impl Print, s: &[u8]) -> Result<usize, Refusal>
     let r = reader::check(s);
     match r {
         Ok(_) => {
-            labels(rt, s);
+            let _ = labels(rt, s);
         }
         Err(_) => {
-            report::sheet(rt, s);
+            let _ = report::sheet(rt, s);
         }
     }
     r
 }
 
-// Room for the longest run of date codes, 67 of them.
-fn labels(rt: &impl Print, s: &[u8]) {
-    let mut codes = [0u8; 536];
-    label_records(rt, s, &mut codes);
-}
-
-// Record by record, through the sheet that carries its file; one that is taken ends with no refusal.
-fn label_records(rt: &impl Print, s: &[u8], codes: &mut [u8]) {
+// Record by record, through the sheet that carries its file; one that is taken ends with no refusal. The room is that of the longest run of date
+// codes, 67 of them.
+fn labels(rt: &impl Print, s: &[u8]) -> Result<(), Refusal> {
     let mut t = sheet::begin(s);
+    let mut codes = [0u8; 536];
     let mut bag = no_bag();
     loop {
         let step = sheet::step(s, t);
-        let answer = step.next;
-        match answer {
-            Ok(Some(r)) => {
-                bag = with_record(rt, s, bag, r, codes);
+        match step.next? {
+            Some(r) => {
+                add(rt, s, &mut bag, r, &mut codes);
                 t = step.state;
             }
-            Err(_) => {
-                return;
-            }
-            Ok(None) => {
-                return print(rt, b"\n");
+            None => {
+                print(rt, b"\n");
+                return Ok(());
             }
         }
     }
@@ -90,104 +86,65 @@ fn no_bag() -> Bag {
     }
 }
 
-// What a record adds to the label is printed, and what it leaves is handed back.
-fn with_record(rt: &impl Print, s: &[u8], bag: Bag, r: Record, codes: &mut [u8]) -> Bag {
+// What a record adds to the label is printed, and what it leaves is kept in the bag.
+fn add(rt: &impl Print, s: &[u8], bag: &mut Bag, r: Record, codes: &mut [u8]) {
     match r {
-        Record::Issue(x) => with_issue(bag, x.date),
-        Record::Rp(x) => with_rp(rt, bag, x),
-        Record::Usage(x) => with_line(rt, s, bag, x.name),
-        Record::Supplement(x) => with_supplement(rt, s, bag, x, codes),
-        Record::Drug(x) => with_drug(rt, s, bag, x, codes),
-        Record::Kept(_) => bag,
+        Record::Issue(x) => bag.issue = x.date,
+        Record::Rp(x) => begin(rt, bag, x),
+        Record::Usage(x) => print_line(rt, record::text(s, x.name)),
+        Record::Supplement(x) => add_supplement(rt, s, bag, x, codes),
+        Record::Drug(x) => {
+            // Before the first drug of its RP the dates.
+            dates(rt, bag.issue.month, first(codes, bag.run));
+            bag.run = 0;
+            drug(rt, s, x)
+        }
+        Record::Kept(_) => {}
     }
 }
 
-fn with_issue(bag: Bag, date: Date) -> Bag {
-    let mut b = bag;
-    b.issue = date;
-    b
-}
-
 // An RP begins: an empty line ends the label before it.
-fn with_rp(rt: &impl Print, bag: Bag, x: Record101) -> Bag {
+fn begin(rt: &impl Print, bag: &mut Bag, x: Record101) {
     if bag.begun {
         print(rt, b"\n");
     }
     print(rt, b"RP");
     print_right(rt, printed::number(x.rp.0), 4);
-    print(rt, b"  ");
+    print(rt, LEFT);
     issue_date(rt, bag.issue);
     print(rt, b"\n");
-    let mut b = bag;
-    b.begun = true;
-    b
+    bag.begun = true
 }
 
 // The date made again with no style named.
 fn issue_date(rt: &impl Print, t: Date) {
-    match Date::of(t.year, t.month, t.day) {
-        Ok(d) => print_right(rt, printed::day(d), 0),
-        Err(_) => {}
-    }
-}
-
-fn with_line(rt: &impl Print, s: &[u8], bag: Bag, p: Place) -> Bag {
-    print_line(rt, record::text(s, p));
-    bag
-}
-
-fn with_supplement(rt: &impl Print, s: &[u8], bag: Bag, x: Record181, codes: &mut [u8]) -> Bag {
-    let code = x.code;
-    match code {
-        Some(c) => with_code(rt, bag, c, codes),
-        None => with_line(rt, s, bag, x.text),
+    if let Ok(d) = Date::of(t.year, t.month, t.day) {
+        print_right(rt, printed::day(d), 0)
     }
 }
 
 // A date code waits for the others of its run.
-fn with_code(rt: &impl Print, bag: Bag, x: Supplement, codes: &mut [u8]) -> Bag {
-    if x.letter == b'D' {
-        let mut b = bag;
-        b.run = put_code(codes, bag.run, x);
-        return b;
+fn add_supplement(rt: &impl Print, s: &[u8], bag: &mut Bag, x: Record181, codes: &mut [u8]) {
+    match x.code {
+        Some(c) if c.letter == b'D' => bag.run = put_code(codes, bag.run, c),
+        Some(c) => print_schedule(rt, c),
+        None => print_line(rt, record::text(s, x.text)),
     }
-    print_schedule(rt, x);
-    bag
 }
 
 // A code behind those before it; the place after it. No run of a sheet that is taken lacks room.
 fn put_code(codes: &mut [u8], at: usize, x: Supplement) -> usize {
     let w = supplement_writer::write(x);
-    let code = w.code;
-    if codes.len() < 8 {
+    if codes.len() < 8 || codes.len() - 8 < at {
         return at;
     }
-    if codes.len() - 8 < at {
-        return at;
-    }
-    let mut i: usize = 0;
-    while i < 8 {
-        codes[at + i] = code[i];
-        i += 1;
-    }
+    codes[at..at + 8].copy_from_slice(&w.code);
     at + 8
-}
-
-// A drug, and before the first of its RP the dates.
-fn with_drug(rt: &impl Print, s: &[u8], bag: Bag, x: Record201, codes: &[u8]) -> Bag {
-    let issue = bag.issue;
-    dates(rt, issue.month, first(codes, bag.run));
-    drug(rt, s, x);
-    let mut b = bag;
-    b.run = 0;
-    b
 }
 
 // The days of the whole run; none where no code waits.
 fn dates(rt: &impl Print, issue: u8, codes: &[u8]) {
-    let r = days::read_run(issue, codes);
-    let set = r.days;
-    print_days(rt, issue, set)
+    print_days(rt, issue, days::read_run(issue, codes).days)
 }
 
 fn drug(rt: &impl Print, s: &[u8], x: Record201) {
@@ -201,7 +158,7 @@ fn drug(rt: &impl Print, s: &[u8], x: Record201) {
 // What a drug is called: its name, or where it has none its code.
 fn title(s: &[u8], x: Record201) -> &[u8] {
     let name = record::text(s, x.name);
-    if name.len() == 0 {
+    if name.is_empty() {
         return record::text(s, x.code);
     }
     name
@@ -209,83 +166,87 @@ fn title(s: &[u8], x: Record201) -> &[u8] {
 
 // Up to the amount's columns, on the next line where the name passes its own.
 fn drug_name(rt: &impl Print, t: &[u8]) {
-    print(rt, b"  ");
+    print(rt, LEFT);
     print(rt, t);
     if NAME < t.len() {
         print(rt, b"\n  ");
-        return fill(rt, 0, NAME);
+        return spaces(rt, NAME);
     }
-    fill(rt, t.len(), NAME)
+    spaces(rt, NAME - t.len())
 }
 
 // ---- supplements in words, as they stand on a bag, in Shift_JIS: a line each
 
 // I, W or C.
 fn print_schedule(rt: &impl Print, x: Supplement) {
-    if x.letter == b'I' {
-        return interval(rt, x.on, x.off);
-    }
-    if x.letter == b'W' {
-        let w = x.week;
-        return week(rt, w);
-    }
-    if x.letter == b'C' {
-        return times(rt, x.period, x.count);
+    match x.letter {
+        b'I' => interval(rt, x.on, x.off),
+        b'W' => week(rt, x.week),
+        b'C' => times(rt, x.period, x.count),
+        _ => {}
     }
 }
 
 fn interval(rt: &impl Print, on: u8, off: u8) {
-    print(rt, b"  ");
-    print_number(rt, on);
+    print(rt, LEFT);
+    streams::print(rt, on);
     print(rt, b"\x93\xfa\x95\x9e\x97\x70 "); // 日服用
-    print_number(rt, off);
+    streams::print(rt, off);
     print(rt, b"\x93\xfa\x8b\x78\x96\xf2\n"); // 日休薬
 }
 
+// 日, 月, 火, 水, 木, 金, 土.
+const WEEKDAYS: [&[u8]; 7] = [
+    b"\x93\xfa",
+    b"\x8c\x8e",
+    b"\x89\xce",
+    b"\x90\x85",
+    b"\x96\xd8",
+    b"\x8b\xe0",
+    b"\x93\x79",
+];
+
 fn week(rt: &impl Print, w: Week) {
+    let meant = [
+        w.sunday,
+        w.monday,
+        w.tuesday,
+        w.wednesday,
+        w.thursday,
+        w.friday,
+        w.saturday,
+    ];
     print(rt, b" ");
-    weekday(rt, w.sunday, b" \x93\xfa"); // 日
-    weekday(rt, w.monday, b" \x8c\x8e"); // 月
-    weekday(rt, w.tuesday, b" \x89\xce"); // 火
-    weekday(rt, w.wednesday, b" \x90\x85"); // 水
-    weekday(rt, w.thursday, b" \x96\xd8"); // 木
-    weekday(rt, w.friday, b" \x8b\xe0"); // 金
-    weekday(rt, w.saturday, b" \x93\x79"); // 土
+    for (name, meant) in WEEKDAYS.iter().zip(meant) {
+        if meant == 1 {
+            print(rt, b" ");
+            print(rt, name);
+        }
+    }
     print(rt, b"\n");
 }
 
-fn weekday(rt: &impl Print, meant: u8, name: &[u8]) {
-    if meant == 1 {
-        print(rt, name)
-    }
-}
-
 fn times(rt: &impl Print, period: u8, count: u8) {
-    print(rt, b"  ");
-    each(rt, period);
-    print_number(rt, count);
+    print(rt, LEFT);
+    print(rt, each(period));
+    streams::print(rt, count);
     print(rt, b"\x89\xf1\n"); // 回
 }
 
-fn each(rt: &impl Print, period: u8) {
-    if period == b'Y' {
-        return print(rt, b"\x94\x4e"); // 年
+fn each(period: u8) -> &'static [u8] {
+    match period {
+        b'Y' => b"\x94\x4e", // 年
+        b'M' => b"\x8c\x8e", // 月
+        _ => b"\x8f\x54", // 週
     }
-    if period == b'M' {
-        return print(rt, b"\x8c\x8e"); // 月
-    }
-    print(rt, b"\x8f\x54") // 週
 }
 
 // The days of every month, or those of the twelve months from the issue month on, a month a line.
 fn print_days(rt: &impl Print, issue: u8, set: DaySet) {
     month(rt, 0, set.cells[0]);
-    let mut ahead: u8 = 0;
-    while ahead < 12 {
+    for ahead in 0..12u8 {
         let m = month_ahead(issue, ahead);
-        let mask = set.cells[m as usize];
-        month(rt, m, mask);
-        ahead += 1;
+        month(rt, m, set.cells[m as usize]);
     }
 }
 
@@ -300,14 +261,13 @@ fn month(rt: &impl Print, m: u8, mask: u32) {
     if mask == 0 {
         return;
     }
-    print(rt, b"  ");
+    print(rt, LEFT);
     month_name(rt, m);
-    let mut d: u8 = 1;
-    let mut left = mask;
-    while d < 32 {
-        day(rt, d, left % 2);
-        left /= 2;
-        d += 1;
+    for bit in 0..31u32 {
+        if mask >> bit & 1 == 1 {
+            streams::print(rt, format_args!(" {}", bit + 1));
+            print(rt, b"\x93\xfa"); // 日
+        }
     }
     print(rt, b"\n");
 }
@@ -316,42 +276,26 @@ fn month_name(rt: &impl Print, m: u8) {
     if m == 0 {
         return print(rt, b"\x96\x88\x8c\x8e"); // 毎月
     }
-    print_number(rt, m);
+    streams::print(rt, m);
     print(rt, b"\x8c\x8e") // 月
 }
 
-fn day(rt: &impl Print, d: u8, bit: u32) {
-    if bit == 0 {
-        return;
-    }
-    print(rt, b" ");
-    print_number(rt, d);
-    print(rt, b"\x93\xfa") // 日
-}
-
-// ---- texts, numbers and columns
+// ---- texts and columns
 
 fn print(rt: &impl Print, t: &[u8]) {
     streams::write_all(rt, t);
 }
 
-fn print_number(rt: &impl Print, n: u8) {
-    streams::print_decimal(rt, n as u64);
-}
-
 // A text on a line of its own, from the third column on.
 fn print_line(rt: &impl Print, t: &[u8]) {
-    print(rt, b"  ");
+    print(rt, LEFT);
     print(rt, t);
     print(rt, b"\n");
 }
 
-// Spaces, from a column on up to another.
-fn fill(rt: &impl Print, from: usize, to: usize) {
-    let mut at = from;
-    while at < to {
+fn spaces(rt: &impl Print, n: usize) {
+    for _ in 0..n {
         print(rt, b" ");
-        at += 1;
     }
 }
 
@@ -359,16 +303,11 @@ fn fill(rt: &impl Print, from: usize, to: usize) {
 fn first(t: &[u8], n: usize) -> &[u8]
     ensures { result.now ≡ take n t.now }
 {
-    if t.len() < n {
-        return t;
-    }
-    &t[0..n]
+    t.get(..n).unwrap_or(t)
 }
 
 // At the right end of so many columns, and past it rather than cut.
 fn print_right(rt: &impl Print, p: Piece, width: usize) {
-    let bytes = p.bytes;
-    let n = p.length;
-    fill(rt, n, width);
-    print(rt, first(&bytes, n));
+    spaces(rt, width.saturating_sub(p.length));
+    print(rt, first(&p.bytes, p.length));
 }

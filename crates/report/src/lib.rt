@@ -7,40 +7,18 @@ ghost use Rattle.reader.specs.File.{check_file};
 
 use record::Refusal;
 
-fn words(rt: &impl Print, text: &[u8]) {
-    streams::write_all(rt, text);
-}
-
-// A name and a number, after a space.
-fn named(rt: &impl Print, name: &[u8], n: usize) {
-    words(rt, name);
-    streams::print_decimal(rt, n as u64);
-}
-
-// Where a record's refusal stands; for 29 the code's own number and place too.
-fn at_record(rt: &impl Print, f: Refusal) {
-    named(rt, b" record ", f.at);
+// The number of a refusal and where it stands: an offset of the file, or a record, and of it the field; for 29 the code's own number and place too.
+fn refusal(rt: &impl Print, f: Refusal) {
+    streams::print(rt, format_args!("refused {}", f.fault.number));
+    if f.fault.number <= 22 {
+        return streams::print(rt, format_args!(" offset {}", f.at));
+    }
+    streams::print(rt, format_args!(" record {}", f.at));
     if f.field != 0 {
-        named(rt, b" field ", f.field);
+        streams::print(rt, format_args!(" field {}", f.field));
     }
     if f.fault.number == 29 {
-        named(rt, b" code ", f.code as usize);
-        named(rt, b" place ", f.fault.place);
-    }
-}
-
-fn refusal(rt: &impl Print, f: Refusal) {
-    named(rt, b"refused ", f.fault.number as usize);
-    if f.fault.number <= 22 {
-        return named(rt, b" offset ", f.at);
-    }
-    at_record(rt, f)
-}
-
-fn answer(rt: &impl Print, r: Result<usize, Refusal>) {
-    match r {
-        Ok(n) => named(rt, b"ok ", n),
-        Err(f) => refusal(rt, f),
+        streams::print(rt, format_args!(" code {} place {}", f.code, f.fault.place));
     }
 }
 
@@ -49,7 +27,10 @@ pub fn sheet(rt: &impl Print, s: &[u8]) -> Result<usize, Refusal>
     ensures { said_check result ≡ check_file s.now }
 {
     let r = reader::check(s);
-    answer(rt, r);
-    words(rt, b"\n");
+    match r {
+        Ok(n) => streams::print(rt, format_args!("ok {n}")),
+        Err(f) => refusal(rt, f),
+    }
+    streams::write_all(rt, b"\n");
     r
 }
