@@ -1,7 +1,7 @@
 // Answers in words, on standard output.
 use cells::Fault;
 use date::Date;
-use days::{DaySet, Run};
+use days::{DaySet, Halt};
 use supplement::{Days, Supplement, Week};
 use usage::{Event, Hours, Instruction, Occasions};
 
@@ -29,9 +29,10 @@ pub fn same(rt: &impl Print, yes: bool) {
 
 // A date as it is written.
 pub fn date(rt: &impl Print, t: Date) {
-    let text = date::print(t);
     words(rt, b"taken ");
-    words(rt, first(&text.bytes, text.length as usize))
+    if let Some(text) = date::print(t) {
+        words(rt, first(&text.bytes, text.length as usize))
+    }
 }
 
 pub fn instruction(rt: &impl Print, i: Instruction) {
@@ -153,13 +154,15 @@ fn dates(rt: &impl Print, month: u8, d: Days) {
 }
 
 // A run's days, or its refusal, with the code's place in the run for a code's own.
-pub fn run(rt: &impl Print, r: Run) {
-    if r.number == 0 {
-        return days(rt, r.days);
-    }
-    streams::print(rt, format_args!("refused {} {}", r.number, r.place));
-    if r.code != 0 {
-        streams::print(rt, format_args!(" code {}", r.code));
+pub fn run(rt: &impl Print, r: Result<DaySet, Halt>) {
+    match r {
+        Ok(set) => days(rt, set),
+        Err(h) => {
+            streams::print(rt, format_args!("refused {} {}", h.number, h.place));
+            if h.code != 0 {
+                streams::print(rt, format_args!(" code {}", h.code));
+            }
+        }
     }
 }
 

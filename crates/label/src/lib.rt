@@ -134,17 +134,19 @@ fn add_supplement(rt: &impl Print, s: &[u8], bag: &mut Bag, x: Record181, codes:
 
 // A code behind those before it; the place after it. No run of a sheet that is taken lacks room.
 fn put_code(codes: &mut [u8], at: usize, x: Supplement) -> usize {
-    let w = supplement_writer::write(x);
+    let code = supplement_writer::write(x).unwrap_or([0; 8]);
     if codes.len() < 8 || codes.len() - 8 < at {
         return at;
     }
-    codes[at..at + 8].copy_from_slice(&w.code);
+    codes[at..at + 8].copy_from_slice(&code);
     at + 8
 }
 
 // The days of the whole run; none where no code waits.
 fn dates(rt: &impl Print, issue: u8, codes: &[u8]) {
-    print_days(rt, issue, days::read_run(issue, codes).days)
+    if let Ok(set) = days::read_run(issue, codes) {
+        print_days(rt, issue, set)
+    }
 }
 
 fn drug(rt: &impl Print, s: &[u8], x: Record201) {
