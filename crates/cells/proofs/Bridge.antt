@@ -158,14 +158,30 @@ pub goes : {a b r : Result ⊤ Fault} → a ≡ Ok tt → r ≡ and_then a b →
 unfolding and_then
 goes h w = simp h at w
 
+-- one test, of what a call answered
+pub tested : (n p : ℕ) {b d : Bool} {r : Result ⊤ Fault} → r ≡ passes (first (test n p b ∷ [])) → b ≡ d → r ≡ passes (first (test n p d ∷ []))
+tested n p h e = h ∙ ap (λ (x : Bool). passes (first (test n p x ∷ []))) e
+
 -- a value judged: the fault that was told, or the value
-pub judged_fault : {A : Type 0} (f e : Fault) (x : A) → passes f ≡ Err e → judge f x ≡ refused e.number e.place
-judged_fault f e x h =
+pub judged_fault : (f e : Fault) → passes f ≡ Err e → {A : Type 0} (x : A) → judge f x ≡ refused e.number e.place
+judged_fault f e h x =
     split (eqb f.number 0) (λ z. absurd (let k = simp z at h in cc))
     (λ z. let k = simp z at h in let j : f ≡ e = cc in simp z (ap (λ (g : Fault). refused g.number g.place) j))
 
-pub judged_value : {A : Type 0} (f : Fault) (x : A) → passes f ≡ Ok tt → judge f x ≡ took x
-judged_value f x h = split (eqb f.number 0) (λ z. simp z) (λ z. absurd (let k = simp z at h in cc))
+pub judged_value : (f : Fault) → passes f ≡ Ok tt → {A : Type 0} (x : A) → judge f x ≡ took x
+judged_value f h x = split (eqb f.number 0) (λ z. simp z) (λ z. absurd (let k = simp z at h in cc))
+
+-- and back
+pub refused_by : {A : Type 0} (f e : Fault) (x : A) → refused e.number e.place ≡ judge f x → passes f ≡ Err e
+refused_by f e x h =
+    split (eqb f.number 0) (λ z. absurd (let k = simp z at h in cc))
+    (λ z. let k = simp z at h in
+    let n : f.number ≡ e.number = cc in
+    let p : f.place ≡ e.place = cc in
+    simp z (λ j. Err (record { number = n j; place = p j })))
+
+pub taken_by : {A : Type 0} (f : Fault) (a x : A) → took a ≡ judge f x → (passes f ≡ Ok tt) × (a ≡ x)
+taken_by f a x h = split (eqb f.number 0) (λ z. let k = simp z at h in (simp z, cc)) (λ z. absurd (let k = simp z at h in cc))
 
 pub numbered : (k i : ℕ) (xs : List Cell) (s : List ℕ) → Numbered (cells k i xs s)
 unfolding cells

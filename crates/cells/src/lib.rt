@@ -1,11 +1,11 @@
 // Characters of codes, sets of them, the first fault of a row of characters, tested from left to right, and codes compared.
-#![tactic(auto, using(crate::proofs::Tests::tests), unfolding(crate::specs::Text::letter, crate::specs::Code::Mask::value, crate::specs::Code::Mask::has, crate::specs::Code::Mask::wrong, crate::specs::Code::Mask::unused, crate::specs::Code::Mask::wrong_at))]
+#![tactic(auto, using(crate::proofs::Tests::tests), unfolding(crate::specs::Text::letter, crate::specs::Test::first, crate::specs::Code::Mask::value, crate::specs::Code::Mask::has, crate::specs::Code::Mask::wrong, crate::specs::Code::Mask::unused, crate::specs::Code::Mask::wrong_at))]
 
-ghost use Rattle.std.specs.Prelude.{◌≡◌, ◌+◌, ◌-◌, ◌<◌, ◌≤◌, length};
+ghost use Rattle.std.specs.Prelude.{◌≡◌, [], ◌∷◌, ◌+◌, ◌-◌, ◌<◌, ◌≤◌, length};
 ghost use Rattle.cells.specs.Text.{letter as letter_of};
 ghost use Rattle.cells.specs.Same.{Compares};
 ghost use Rattle.cells.specs.Code.Mask.{value as value_of, has as has_of, wrong as wrong_of, unused as unused_of, wrong_at, scan, told};
-ghost use Rattle.cells.specs.Test.{passes};
+ghost use Rattle.cells.specs.Test.{test as test_of, first, passes};
 
 // One of document 01's numbers, and the place that it is of.
 #[derive(Clone, Copy, PartialEq, Eq, Debug)]
@@ -94,6 +94,18 @@ pub fn first_fault(sets: &[u64], rise: usize, last: u8, s: &[u8], from: usize) -
         }
     }
     Ok(())
+}
+
+// One test: the fault where it is not passed.
+pub fn test(number: u16, place: usize, passed: bool) -> Result<(), Fault>
+    requires { 0 < number }
+    ensures { result ≡ passes (first (test_of number place passed ∷ [])) }
+{
+    if passed {
+        Ok(())
+    } else {
+        Err(Fault { number, place })
+    }
 }
 
 // Are these the same bytes, one by one? So two codes are compared.

@@ -1,9 +1,9 @@
 // Usage codes: sixteen characters that say how and when a medicine is taken or applied.
-#![tactic(auto, using(cells::proofs::Tests::tests, cells::proofs::Bridge::value_digit, crate::proofs::Masks::hour_byte), unfolding(crate::proofs::Masks::from_a, cells::specs::Text::among, cells::specs::Test::first, crate::specs::Usage::used, crate::specs::Usage::timing, crate::specs::Usage::says, crate::specs::Code::Sets::details, crate::specs::Code::Sets::kinds, crate::specs::Code::Sets::pairs))]
+#![tactic(auto, using(cells::proofs::Tests::tests, cells::proofs::Bridge::value_digit, crate::proofs::Masks::hour_byte), unfolding(crate::proofs::Masks::from_a, cells::specs::Text::among, crate::specs::Usage::used, crate::specs::Usage::timing, crate::specs::Usage::says, crate::specs::Code::Sets::details, crate::specs::Code::Sets::kinds, crate::specs::Code::Sets::pairs))]
 
-ghost use Rattle.std.specs.Prelude.{◌≡◌, [], ◌∷◌, ◌<◌, ◌≤◌};
+ghost use Rattle.std.specs.Prelude.{◌≡◌, [], ◌∷◌, ◌≤◌};
 ghost use Rattle.cells.specs.Text.{digit as digit_of};
-ghost use Rattle.cells.specs.Test.{test as test_of, first, passes};
+ghost use Rattle.cells.specs.Test.{first, passes};
 ghost use Rattle.cells.specs.Code.Mask.{value, has};
 ghost use Rattle.usage.specs.Usage.{hour as hour_of, used as used_of, frame, occasions, counted, full_day, at_fifteen, timing, meals as meals_of, outside as outside_of, clock as clock_of, event_of, says, read_usage, said as said_of, meal_tests, every_tests, clock_tests, event_tests, outside_tests, pair_tests};
 ghost use Rattle.usage.specs.Code.Sets.{details as detail_set, kinds as kind_set, pairs as pair_set, in_line, in_lines};
@@ -199,18 +199,6 @@ fn among(set: u64, c: u8) -> bool
     cells::has(set, cells::value(c))
 }
 
-// One test: the fault where it is not passed.
-fn test(number: u16, place: usize, passed: bool) -> Result<(), Fault>
-    requires { 0 < number }
-    ensures { result ≡ passes (first (test_of number place passed ∷ [])) }
-{
-    if passed {
-        Ok(())
-    } else {
-        Err(Fault { number, place })
-    }
-}
-
 // The details of a class.
 fn details(class: u8) -> u64
     ensures { result ≡ detail_set class }
@@ -239,9 +227,9 @@ fn frame_fault(s: &[u8; 16]) -> Result<(), Fault>
     let class = s[0];
     let detail = s[1];
     let kind = s[2];
-    test(2, 1, among(CLASSES, class))?;
-    test(3, 2, among(details(class), detail))?;
-    test(4, 3, among(kinds(class, detail), kind))
+    cells::test(2, 1, among(CLASSES, class))?;
+    cells::test(3, 2, among(details(class), detail))?;
+    cells::test(4, 3, among(kinds(class, detail), kind))
 }
 
 // How many characters from the 5th to the 10th are not 0.
@@ -255,7 +243,7 @@ fn count(s: &[u8; 16]) -> u8
 fn count_fault(s: &[u8; 16]) -> Result<(), Fault>
     ensures { result ≡ passes (first (counted s.now ∷ [])) }
 {
-    test(7, 4, digit(s[3]) == count(s))
+    cells::test(7, 4, digit(s[3]) == count(s))
 }
 
 // Bedtime, all three meals, each after it, and no waking.
@@ -269,7 +257,7 @@ fn full_day(s: &[u8; 16]) -> bool
 fn fifteen_fault(s: &[u8; 16]) -> Result<(), Fault>
     ensures { result ≡ passes (first (at_fifteen s.now ∷ [])) }
 {
-    test(8, 10, s[9] != b'P' || full_day(s))
+    cells::test(8, 10, s[9] != b'P' || full_day(s))
 }
 
 // Kind 1.
@@ -316,8 +304,8 @@ fn in_table(a: u8, b: u8, c: u8) -> bool
 fn event_fault(s: &[u8; 16]) -> Result<(), Fault>
     ensures { result ≡ passes (first (event_tests s.now)) }
 {
-    test(5, 4, among(ZERO, s[3]))?;
-    test(8, 5, in_table(s[4], s[5], s[6]))?;
+    cells::test(5, 4, among(ZERO, s[3]))?;
+    cells::test(8, 5, in_table(s[4], s[5], s[6]))?;
     cells::first_fault(&LIMITS, NEVER, ANY, s, 7)
 }
 
@@ -347,7 +335,7 @@ fn pairs(c: u8) -> u64
 fn pair_fault(s: &[u8; 16]) -> Result<(), Fault>
     ensures { result ≡ passes (first (pair_tests s.now)) }
 {
-    test(8, 4, among(pairs(s[3]), s[4]))?;
+    cells::test(8, 4, among(pairs(s[3]), s[4]))?;
     cells::first_fault(&[], NEVER, ANY, s, 5)
 }
 
