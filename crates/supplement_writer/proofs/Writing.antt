@@ -2,18 +2,20 @@
 -- Assumes nothing.
 use Prim.Native.Nat.{ℕ}
 use mathlib.Core.Path.{◌≡◌, ◌∙◌, sym, ap}
-use mathlib.Core.Bool.{true, false}
+use mathlib.Core.Bool.{true}
 use native.Mathlib.Omega.{arith}
 use lib.ListN.{get_or}
-use Rattle.cells.specs.Test.{Answer, took, refused}
+use Rattle.cells.specs.Test.{Answer, took, refused, fault}
 use Rattle.cells.specs.Same.{eqs}
 use Rattle.cells.proofs.Alike.{and_left, and_right}
 use Rattle.cells.proofs.Same.{eqs_eq, eqs_self}
-use Rattle.cells.proofs.Writing.{writes}
-use Rattle.supplement.specs.Supplement.{read_supplement}
+use Rattle.cells.proofs.Writing.{writes, refuses}
+use Rattle.supplement.specs.Supplement.{read_supplement, said}
+use Rattle.supplement.proofs.Laws.{one_reading}
+use Rattle.std.specs.Prelude.{Err, Ok, Result}
+use Rattle.cells.specs.declared.Fault.{Fault}
 use Rattle.supplement.specs.declared.Supplement.{Supplement}
 use Rattle.supplement_writer.specs.Writes.{WritesSupplement}
-use Rattle.supplement_writer.specs.Code.Write.{answer}
 use Rattle.supplement_writer.specs.Print.{raw, of_head, of_week, of_days, same, agrees}
 use Rattle.supplement_writer.proofs.Laws.{back}
 
@@ -53,8 +55,11 @@ agrees_took (refused n p) x h = absurd (let z : ◌≡◌ {A = ℕ} 0 1 = cc in 
 agrees_self : (x : Supplement) → agrees (took x) x ≡ true
 agrees_self x = simp (eqs_self (of_head x), eqs_self (of_week x.week), eqs_self (of_days x.days))
 
-pub written : (x : Supplement) → WritesSupplement x (answer (agrees (read_supplement (raw x)) x) (raw x))
-written x =
-    writes Supplement read_supplement _ raw back x (agrees (read_supplement (raw x)) x) (λ a. agrees_took (read_supplement (raw x)) x a)
-    (λ a h. let k : false ≡ true = sym a ∙ ap (λ u. agrees u x) h ∙ agrees_self x in
-    let y : ◌≡◌ {A = ℕ} 0 1 = cc in omega arith)
+module _ (x : Supplement) (u : Result Supplement Fault) (r : said u ≡ read_supplement (raw x)) where
+  -- the record was read back
+  pub written : (y : Supplement) → u ≡ Ok y → y ≡ x → WritesSupplement x (Ok (raw x))
+  written y h e = writes Supplement read_supplement raw back x (sym r ∙ ap said h ∙ ap took e)
+
+  -- another was, or none
+  pub unwritten : (u ≡ Ok x → ⊥) → WritesSupplement x (Err (fault 35 0))
+  unwritten n = refuses Supplement read_supplement raw back x (λ h. n (one_reading u (Ok x) (r ∙ h)))
