@@ -2,9 +2,8 @@
 use mathlib.Core.Path.{◌≡◌, ◌∙◌, ap}
 use mathlib.Core.Bool.{true}
 use Rattle.supplement.specs.Supplement.{read_supplement}
-use borrow.Author.Rules.{rules}
 use Rattle.cells.proofs.Same.{itself}
-use Rattle.supplement_writer.proofs.Writing.{written, unwritten}
+use Rattle.supplement_writer.proofs.Writing.{unwritten}
 use Rattle.supplement_writer.proofs.write.Goals as goal
 
 pub returns-in_default : goal.returns-in_default
@@ -18,8 +17,3 @@ pub returns-in_default-2 : goal.returns-in_default-2
 returns-in_default-2 c =
     unwritten c.args.x c.read.result (c.read.ensures ∙ ap read_supplement c.raw-code.ensures)
     (λ e. cc (c.in_default.is, e))
-
-pub returns-in-Ok : goal.returns-in-Ok
-returns-in-Ok c =
-    let q : c.in-Ok.y ≡ c.args.x = search rules in
-    rw c.raw-code.ensures (written c.args.x c.read.result (c.read.ensures ∙ ap read_supplement c.raw-code.ensures) c.in-Ok.y c.in-Ok.is q)
