@@ -1,12 +1,11 @@
 -- The writer's answer: the characters where they read back as the record, and else 35, since no other characters can.
 -- Assumes nothing.
-use Prim.Native.Nat.{ℕ}
-use mathlib.Core.Path.{◌≡◌, ◌∙◌, sym, ap}
-use mathlib.Core.Bool.{true}
-use native.Mathlib.Omega.{arith}
+use mathlib.Core.Path.{◌≡◌, refl, ◌∙◌, sym, ap}
+use mathlib.Core.Bool.{true, cond}
 use lib.ListN.{get_or}
-use Rattle.cells.specs.Test.{Answer, took, refused, fault}
+use Rattle.cells.specs.Test.{took, fault}
 use Rattle.cells.specs.Same.{eqs}
+use Rattle.cells.proofs.Split.{split}
 use Rattle.cells.proofs.Alike.{and_left, and_right}
 use Rattle.cells.proofs.Same.{eqs_eq, eqs_self}
 use Rattle.cells.proofs.Writing.{writes, refuses}
@@ -48,12 +47,8 @@ same_record a b h =
       places = get_or (f i) 8 0;
     }
 
-agrees_took : (u : Answer Supplement) (x : Supplement) → agrees u x ≡ true → u ≡ took x
-agrees_took (took y) x h = ap took (same_record y x h)
-agrees_took (refused n p) x h = absurd (let z : ◌≡◌ {A = ℕ} 0 1 = cc in omega arith)
-
-agrees_self : (x : Supplement) → agrees (took x) x ≡ true
-agrees_self x = simp (eqs_self (of_head x), eqs_self (of_week x.week), eqs_self (of_days x.days))
+same_self : (x : Supplement) → same x x ≡ true
+same_self x = simp (eqs_self (of_head x), eqs_self (of_week x.week), eqs_self (of_days x.days))
 
 module _ (x : Supplement) (u : Result Supplement Fault) (r : said u ≡ read_supplement (raw x)) where
   -- the record was read back
@@ -63,3 +58,10 @@ module _ (x : Supplement) (u : Result Supplement Fault) (r : said u ≡ read_sup
   -- another was, or none
   pub unwritten : (u ≡ Ok x → ⊥) → WritesSupplement x (Err (fault 35 0))
   unwritten n = refuses Supplement read_supplement raw back x (λ h. n (one_reading u (Ok x) (r ∙ h)))
+
+-- what is printed, where it reads as the record number by number
+pub answered : (x : Supplement) (u : Result Supplement Fault) → said u ≡ read_supplement (raw x) → WritesSupplement x (cond (agrees (said u) x) (Ok (raw x)) (Err (fault 35 0)))
+answered x (Ok y) r =
+    split (same y x) (λ e. simp e (written x (Ok y) r y refl (same_record y x e)))
+    (λ e. simp e (unwritten x (Ok y) r (λ h. let k : y ≡ x = cc in let t : same y x ≡ true = ap (λ (z : Supplement). same z x) k ∙ same_self x in cc (t, e))))
+answered x (Err f) r = unwritten x (Err f) r (λ h. cc)

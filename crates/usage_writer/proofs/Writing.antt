@@ -1,8 +1,8 @@
 -- The writer's answer: what is written is read back and compared with the instruction, so it meets the writer's statement.
 -- Assumes nothing.
 use Prim.Native.Nat.{ℕ}
-use mathlib.Core.Path.{◌≡◌, ◌∙◌, sym, ap}
-use mathlib.Core.Bool.{true}
+use mathlib.Core.Path.{◌≡◌, refl, ◌∙◌, sym, ap}
+use mathlib.Core.Bool.{Bool, true, false, cond}
 use mathlib.Core.List.{List}
 use lib.Dec.{eqb}
 use lib.ListN.{length, get_or}
@@ -81,9 +81,6 @@ same_eq a b h =
 same_self : (a : Instruction) → same a a ≡ true
 same_self a = simp (eqs_self (of_head a), eqs_self (of_occasions a.occasions), eqs_self (of_hours a.hours), eqs_self (of_event a.event))
 
-same_eq_self : (a b : Instruction) → a ≡ b → same a b ≡ true
-same_eq_self a b e = ap (λ (x : Instruction). same a x) (sym e) ∙ same_self a
-
 module _ (i : Instruction) (u : Result Instruction Fault) (r : said u ≡ read_usage (raw i)) where
   -- the instruction was read back
   pub written : (j : Instruction) → u ≡ Ok j → j ≡ i → WritesUsage i (Ok (raw i))
@@ -92,3 +89,14 @@ module _ (i : Instruction) (u : Result Instruction Fault) (r : said u ≡ read_u
   -- another was, or none
   pub unwritten : (u ≡ Ok i → ⊥) → WritesUsage i (Err (fault 35 0))
   unwritten n = refuses Instruction read_usage raw back i (λ h. n (one_reading u (Ok i) (r ∙ h)))
+
+-- a reading is that of an instruction, number by number
+abbrev pub agrees : Result Instruction Fault → Instruction → Bool
+agrees (Ok j) i = same i j
+agrees (Err f) i = false
+
+pub answered : (i : Instruction) (u : Result Instruction Fault) → said u ≡ read_usage (raw i) → WritesUsage i (cond (agrees u i) (Ok (raw i)) (Err (fault 35 0)))
+answered i (Ok j) r =
+    split (same i j) (λ e. simp e (written i (Ok j) r j refl (sym (same_eq i j e))))
+    (λ e. simp e (unwritten i (Ok j) r (λ h. let k : j ≡ i = cc in let t : same i j ≡ true = ap (same i) k ∙ same_self i in cc (t, e))))
+answered i (Err f) r = unwritten i (Err f) r (λ h. cc)
