@@ -6,14 +6,15 @@ use mathlib.Core.Path.{◌≡◌, refl, ◌∙◌, sym, ap}
 use mathlib.Core.Bool.{Bool, true, false, cond}
 use mathlib.Core.List.{List, [], ◌∷◌, ◌++◌}
 use native.Mathlib.Omega.{arith}
-use borrow.Author.Tests.{eqb-true, eq-eqb, ne_eqb, lt-ltb, le-ltb, leb-true, leb-false}
+use borrow.Author.Tests.{eqb-true, lt-ltb, le-ltb, leb-true, leb-false}
 use lib.Dec.{ltb, leb, eqb}
 use lib.ListN.{length, get_or, length-append}
 use lib.Seq.{get_or-append_seam, append_snoc}
 use Rattle.cells.specs.Text.{among, index, digit}
-use Rattle.cells.specs.Test.{Test, test, fault, first}
+use Rattle.std.specs.Prelude.{⊤, Err, Ok, Result}
+use Rattle.cells.specs.Test.{Test, test, fault, first, passes, took, refused, judge}
 use Rattle.cells.specs.Cells.{Cell, set, rising, upto, rising_upto, tests, cells}
-use Rattle.cells.specs.Code.Mask.{value, has, wrong, unused, wrong_at, scan, either}
+use Rattle.cells.specs.Code.Mask.{value, has, wrong, unused, wrong_at, scan, and_then}
 use Rattle.cells.specs.declared.Fault.{Fault}
 use Rattle.cells.proofs.Split.{split}
 use Rattle.cells.proofs.Alike.{byte, below}
@@ -133,29 +134,54 @@ module _ (s : List ℕ) (small : (p : ℕ) → get_or s p 0 < 256) (rise l : ℕ
           let r : scan (pre ++ m ∷ ms) rise l s k (length pre + 1) (i + 1) ≡ first (cells k (i + 1) xs s) = simp (append_snoc pre m ms, long) at (f (rw long h.1)) in
           simp (in_row pre ms m i) (simp r (sym (cell m l (i + 1) (get_or s (i - 1) 0) (get_or s i 0) (leb rise (length pre)) (cells k (i + 1) xs s) (small (i - 1)) (small i) x h.0)))
 
--- tests, then more tests: the first fault of the one, or of the other
+-- tests, then more tests: where the first have a fault that is the answer, and else the answer is that of the others
 abbrev pub Numbered : List Test → Type 0
 Numbered [] = Unit {0}
 Numbered (t ∷ ts) = (eqb t.number 0 ≡ false) × Numbered ts
 
-pub then : (ts us : List Test) → Numbered ts → first (ts ++ us) ≡ either (first ts) (first us)
-unfolding first either
+pub then : (ts us : List Test) → Numbered ts → passes (first (ts ++ us)) ≡ and_then (passes (first ts)) (passes (first us))
+unfolding first and_then
 then [] us h = refl
 then (t ∷ ts) us h = go t.passed (then ts us h.1)
   where
-    go : (b : Bool) → first (ts ++ us) ≡ either (first ts) (first us) →
-        cond b (first (ts ++ us)) (fault t.number t.place) ≡ either (cond b (first ts) (fault t.number t.place)) (first us)
+    go : (b : Bool) → passes (first (ts ++ us)) ≡ and_then (passes (first ts)) (passes (first us)) →
+        passes (cond b (first (ts ++ us)) (fault t.number t.place)) ≡ and_then (passes (cond b (first ts) (fault t.number t.place))) (passes (first us))
     go true e = e
     go false e = simp h.0
 
--- a program that stops at its first fault tells the first of both; so does one that goes on where there is none
-pub stops : {f f' r : Fault} (g : Fault) → f ≡ f' → (f.number ≡ 0 → ⊥) → either f' g ≡ r → f ≡ r
-unfolding either
-stops {f} {f'} g e h w = let k : f ≡ either f g = rw (ne_eqb f.number 0 h) in k ∙ ap (λ (x : Fault). either x g) e ∙ w
+-- what each `?` needs: the first answer's fault, or the second answer
+pub stops : {a r : Result ⊤ Fault} {e : Fault} (b : Result ⊤ Fault) → a ≡ Err e → r ≡ and_then a b → r ≡ Err e
+unfolding and_then
+stops b h w = simp h at w
 
-pub goes : {f f' g g' r : Fault} → f ≡ f' → f.number ≡ 0 → g ≡ g' → either f' g' ≡ r → g ≡ r
-unfolding either
-goes {f} {f'} {g} {g'} e h k w = let l : g' ≡ either f g' = rw (eq-eqb f.number 0 h) in k ∙ l ∙ ap (λ (x : Fault). either x g') e ∙ w
+pub goes : {a b r : Result ⊤ Fault} → a ≡ Ok tt → r ≡ and_then a b → r ≡ b
+unfolding and_then
+goes h w = simp h at w
+
+-- one test, of what a call answered
+pub tested : (n p : ℕ) {b d : Bool} {r : Result ⊤ Fault} → r ≡ passes (first (test n p b ∷ [])) → b ≡ d → r ≡ passes (first (test n p d ∷ []))
+tested n p h e = h ∙ ap (λ (x : Bool). passes (first (test n p x ∷ []))) e
+
+-- a value judged: the fault that was told, or the value
+pub judged_fault : (f e : Fault) → passes f ≡ Err e → {A : Type 0} (x : A) → judge f x ≡ refused e.number e.place
+judged_fault f e h x =
+    split (eqb f.number 0) (λ z. absurd (let k = simp z at h in cc))
+    (λ z. let k = simp z at h in let j : f ≡ e = cc in simp z (ap (λ (g : Fault). refused g.number g.place) j))
+
+pub judged_value : (f : Fault) → passes f ≡ Ok tt → {A : Type 0} (x : A) → judge f x ≡ took x
+judged_value f h x = split (eqb f.number 0) (λ z. simp z) (λ z. absurd (let k = simp z at h in cc))
+
+-- and back
+pub refused_by : {A : Type 0} (f e : Fault) (x : A) → refused e.number e.place ≡ judge f x → passes f ≡ Err e
+refused_by f e x h =
+    split (eqb f.number 0) (λ z. absurd (let k = simp z at h in cc))
+    (λ z. let k = simp z at h in
+    let n : f.number ≡ e.number = cc in
+    let p : f.place ≡ e.place = cc in
+    simp z (λ j. Err (record { number = n j; place = p j })))
+
+pub taken_by : {A : Type 0} (f : Fault) (a x : A) → took a ≡ judge f x → (passes f ≡ Ok tt) × (a ≡ x)
+taken_by f a x h = split (eqb f.number 0) (λ z. let k = simp z at h in (simp z, cc)) (λ z. absurd (let k = simp z at h in cc))
 
 pub numbered : (k i : ℕ) (xs : List Cell) (s : List ℕ) → Numbered (cells k i xs s)
 unfolding cells

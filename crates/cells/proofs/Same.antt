@@ -10,6 +10,10 @@ use lib.Dec.{eqb}
 use Rattle.cells.specs.Same.{eqs, Compares}
 use Rattle.cells.proofs.Alike.{and_left, and_right}
 
+-- a number is itself: what a derived `==` asks of each field
+pub itself : (n : ℕ) → eqb n n ≡ true
+itself n = eq-eqb n n refl
+
 pub eqs_eq : (xs ys : List ℕ) → eqs xs ys ≡ true → xs ≡ ys
 eqs_eq [] [] h = refl
 eqs_eq [] (y ∷ ys) h = absurd (let z : ◌≡◌ {A = ℕ} 0 1 = cc in omega arith)

@@ -1,6 +1,6 @@
 -- "Codes are tested left to right": the first test that is not passed is the refusal.
 -- Assumes nothing.
-use Rattle.std.specs.Prelude.{ℕ, Bool, cond, List, [], ◌∷◌, eqb}
+use Rattle.std.specs.Prelude.{ℕ, Bool, cond, List, [], ◌∷◌, eqb, ⊤, Err, Ok, Result}
 use Rattle.cells.specs.declared.Fault.{Fault}
 
 -- A test has one of document 01's numbers, a place, and is passed or not.
@@ -21,6 +21,10 @@ fault n p = record { number = n; place = p }
 unfoldable pub first : List Test → Fault
 first [] = fault 0 0
 first (t ∷ ts) = cond t.passed (first ts) (fault t.number t.place)
+
+-- What testing answers: nothing, or the fault.
+abbrev pub passes : Fault → Result ⊤ Fault
+passes f = cond (eqb f.number 0) (Ok tt) (Err f)
 
 -- What a reader says of its input: the value that it reads as, or the refusal's number and place.
 pub data Answer (A : Type 0) : Type 0 where

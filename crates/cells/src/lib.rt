@@ -1,13 +1,14 @@
 // Characters of codes, sets of them, the first fault of a row of characters, tested from left to right, and codes compared.
-#![tactic(auto)]
+#![tactic(auto, using(crate::proofs::Tests::tests), unfolding(crate::specs::Text::letter, crate::specs::Test::first, crate::specs::Code::Mask::value, crate::specs::Code::Mask::has, crate::specs::Code::Mask::wrong, crate::specs::Code::Mask::unused, crate::specs::Code::Mask::wrong_at))]
 
-ghost use Rattle.std.specs.Prelude.{◌≡◌, ◌+◌, ◌-◌, ◌<◌, ◌≤◌, length};
+ghost use Rattle.std.specs.Prelude.{◌≡◌, [], ◌∷◌, ◌+◌, ◌-◌, ◌<◌, ◌≤◌, length};
 ghost use Rattle.cells.specs.Text.{letter as letter_of};
 ghost use Rattle.cells.specs.Same.{Compares};
-ghost use Rattle.cells.specs.Code.Mask.{value as value_of, has as has_of, wrong as wrong_of, unused as unused_of, wrong_at, scan};
+ghost use Rattle.cells.specs.Code.Mask.{value as value_of, has as has_of, wrong as wrong_of, unused as unused_of, wrong_at, scan, told};
+ghost use Rattle.cells.specs.Test.{test as test_of, first, passes};
 
-// One of document 01's numbers, and a place; the number 0 says that nothing is at fault.
-#[derive(Clone, Copy)]
+// One of document 01's numbers, and the place that it is of.
+#[derive(Clone, Copy, PartialEq, Eq, Debug)]
 pub struct Fault {
     pub number: u16,
     pub place: usize,
@@ -17,146 +18,99 @@ pub struct Fault {
 pub fn value(c: u8) -> u8
     ensures { result ≡ value_of c }
 {
-    if c < 48 {
-        return 36;
+    match c {
+        b'0'..=b'9' => c - b'0',
+        b'A'..=b'Z' => c - b'A' + 10,
+        _ => 36,
     }
-    if c <= 57 {
-        return c - 48;
-    }
-    if c < 65 {
-        return 36;
-    }
-    if c <= 90 {
-        return c - 55;
-    }
-    36
 }
 
 // The character of a value; 0, which stands in no code, where there is none.
 pub fn letter(v: u8) -> u8
     ensures { result ≡ letter_of v }
 {
-    if v < 10 {
-        return 48 + v;
+    match v {
+        0..=9 => b'0' + v,
+        10..=35 => b'A' + (v - 10),
+        _ => 0,
     }
-    if v < 36 {
-        return 55 + v;
-    }
-    0
 }
 
 // Does a set of characters, bit v for the value v, have a value?
 pub fn has(set: u64, v: u8) -> bool
     ensures { result ≡ has_of set v }
 {
-    if 36 < v {
-        return false;
-    }
-    (set >> v) % 2 == 1
+    v <= 36 && (set >> v) % 2 == 1
 }
 
-// The number of what is wrong with the value v that stands after the value before; 0 for nothing.
-fn wrong(inside: bool, rises: bool, last: u8, before: u8, v: u8) -> u16
-    ensures { result ≡ wrong_of inside rises last before v }
+// What is wrong with the value v that stands after the value before, in a cell whose set has it or not.
+fn wrong(inside: bool, rises: bool, last: u8, before: u8, v: u8) -> Result<(), u16>
+    ensures { result ≡ told (wrong_of inside rises last before v) }
 {
-    if inside {
-        if last < v {
-            return 8;
-        }
-        if rises {
-            if before < v {
-                return 0;
-            }
-            return 9;
-        }
-        return 0;
+    if !inside {
+        return Err(5);
     }
-    5
+    if last < v {
+        return Err(8);
+    }
+    if rises && v <= before {
+        return Err(9);
+    }
+    Ok(())
 }
 
-fn unused(v: u8) -> u16
-    ensures { result ≡ unused_of v }
+fn unused(v: u8) -> Result<(), u16>
+    ensures { result ≡ told (unused_of v) }
 {
-    if v == 0 {
-        return 0;
-    }
-    6
-}
-
-fn prev(i: usize) -> usize
-    ensures { result ≡ i - 1 }
-{
-    if i == 0 {
-        return 0;
-    }
-    i - 1
+    if v == 0 { Ok(()) } else { Err(6) }
 }
 
 // What is wrong at offset i, the jth of the row.
-fn wrong_at(sets: &[u64], rise: usize, last: u8, s: &[u8], j: usize, i: usize) -> u16
+fn wrong_at(sets: &[u64], rise: usize, last: u8, s: &[u8], j: usize, i: usize) -> Result<(), u16>
     requires { i < length s.now }
-    ensures { result ≡ wrong_at sets.now rise last s.now j i }
+    ensures { result ≡ told (wrong_at sets.now rise last s.now j i) }
 {
     let v = value(s[i]);
-    if j < sets.len() {
-        let q = prev(i);
-        let before = value(s[q]);
-        return wrong(has(sets[j], v), rise <= j, last, before, v);
+    match sets.get(j) {
+        Some(&set) => {
+            let before = value(s[i.saturating_sub(1)]);
+            wrong(has(set, v), rise <= j, last, before, v)
+        }
+        None => unused(v),
     }
-    unused(v)
 }
 
 // The first fault of the characters from an offset on: the first of them stand in the sets of the row, those from `rise` on above
 // the character before them, none above the value `last`; every later character is 0.
-pub fn first_fault(sets: &[u64], rise: usize, last: u8, s: &[u8], from: usize) -> Fault
-    ensures { result ≡ scan sets.now rise last s.now (length s.now - from) 0 from }
+pub fn first_fault(sets: &[u64], rise: usize, last: u8, s: &[u8], from: usize) -> Result<(), Fault>
+    ensures { result ≡ passes (scan sets.now rise last s.now (length s.now - from) 0 from) }
 {
-    let mut i = from;
-    let mut j: usize = 0;
-    while i < s.len() {
-        let w = wrong_at(sets, rise, last, s, j, i);
-        if w != 0 {
-            return Fault {
-                number: w,
+    for i in from..s.len() {
+        if let Err(number) = wrong_at(sets, rise, last, s, i - from, i) {
+            return Err(Fault {
+                number,
                 place: i + 1,
-            };
+            });
         }
-        i += 1;
-        j += 1;
     }
-    Fault {
-        number: 0,
-        place: 0,
+    Ok(())
+}
+
+// One test: the fault where it is not passed.
+pub fn test(number: u16, place: usize, passed: bool) -> Result<(), Fault>
+    requires { 0 < number }
+    ensures { result ≡ passes (first (test_of number place passed ∷ [])) }
+{
+    if passed {
+        Ok(())
+    } else {
+        Err(Fault { number, place })
     }
 }
 
-// Are these the same bytes, one by one?
+// Are these the same bytes, one by one? So two codes are compared.
 pub fn same_bytes(a: &[u8], b: &[u8]) -> bool
     ensures { Compares a.now b.now result }
 {
-    if a.len() != b.len() {
-        return false;
-    }
-    let mut i: usize = 0;
-    while i < a.len() {
-        if a[i] != b[i] {
-            return false;
-        }
-        i += 1;
-    }
-    true
-}
-
-// Are two usage codes one, character by character?
-pub fn same_16(a: [u8; 16], b: [u8; 16]) -> bool
-    ensures { Compares a b result }
-{
-    same_bytes(&a, &b)
-}
-
-// Are two supplementary codes one, character by character?
-pub fn same_8(c: [u8; 8], d: [u8; 8]) -> bool
-    ensures { Compares c d result }
-{
-    same_bytes(&c, &d)
+    a == b
 }

@@ -5,7 +5,6 @@ use mathlib.Core.Path.{◌≡◌}
 use mathlib.Core.Bool.{true, false}
 use mathlib.Core.List.{List}
 use native.Mathlib.Omega.{arith}
-use borrow.Author.Tests.{ne_eqb}
 use Rattle.cells.specs.Text.{among}
 use Rattle.cells.specs.Test.{first}
 use Rattle.cells.specs.Cells.{char, cells}
@@ -26,9 +25,3 @@ module _ (s : List ℕ) (h : (first (tests s)).number ≡ 0) where
     amounts =
         let e : (first (cells 7 1 (amount_cells s) s)).number ≡ 0 = simp (i, w, d, c) at clean in
         passed (among "12345" (char s 2)) 5 2 (cells 6 2 (columns nothing 6 2 s) s) (λ z. omega arith) e
-
--- an amount is read where the code has no fault and none of the other four letters
-pub an_amount : (s : List ℕ) → (first (tests s)).number ≡ 0 →
-    (char s 1 ≡ 73 → ⊥) → (char s 1 ≡ 87 → ⊥) → (char s 1 ≡ 68 → ⊥) → (char s 1 ≡ 67 → ⊥) → (first (cells 6 2 (columns nothing 6 2 s) s)).number ≡ 0
-unfolding among
-an_amount s h i w d c = (amounts s h (simp (ne_eqb _ _ i)) (simp (ne_eqb _ _ w)) (simp (ne_eqb _ _ d)) (simp (ne_eqb _ _ c))).1

@@ -10,7 +10,7 @@ use borrow.Author.Tests.{le-leb, lt-leb, le-ltb, ne_eqb}
 use lib.Dec.{leb, eqb}
 use lib.ListN.{get_or}
 use Rattle.cells.specs.Text.{among, index, digit}
-use Rattle.cells.specs.Test.{first, fault}
+use Rattle.cells.specs.Test.{first, fault, took, refused, judge}
 use Rattle.cells.specs.Cells.{cells}
 use Rattle.cells.specs.Code.Mask.{value}
 use Rattle.cells.proofs.Split.{split}
@@ -18,8 +18,7 @@ use Rattle.cells.proofs.Alike.{byte, each}
 use Rattle.cells.proofs.Bridge.{value_digit}
 use Rattle.cells.specs.declared.Fault.{Fault}
 use Rattle.supplement.specs.Amount.{figures, Seen, nothing, lone, whole, point, decimals, end, may, next, columns, figures_of, decimals_of, places_of}
-use Rattle.supplement.specs.Code.Read.{with_figure, counted, places_from, Reads}
-use Rattle.supplement.specs.declared.Amount.{Amount}
+use Rattle.supplement.specs.Code.Read.{with_figure, counted, places_from, amount_of}
 use Rattle.supplement.proofs.Sets.{joined, in_left, apart}
 
 -- the digits
@@ -144,15 +143,21 @@ no_places point i s = refl
 no_places decimals i s = refl
 no_places end i s = refl
 
-module _ (s : List ℕ) (i : ℕ) (seen : Seen) (n p : ℕ) where
-  abbrev at : Fault → Amount
-  at f = record { fault = f; figures = n; places = p }
+-- the columns from offset i on, after what has been seen, with the number and the places so far, are what is left of an amount
+pub record Left (s : List ℕ) (i : ℕ) (seen : Seen) (n p : ℕ) : Type 0 where
+  pub tests : first (cells (8 - i) i (columns seen (8 - i) i s) s) ≡ first (cells 6 2 (columns nothing 6 2 s) s)
+  pub figures : figures_of n (8 - i) i s ≡ figures_of 0 6 2 s
+  pub places : (first (cells 6 2 (columns nothing 6 2 s) s)).number ≡ 0 → p + places_from seen (8 - i) i s ≡ places_of 6 2 s
 
-  pub none_left : 8 ≤ i → Reads s i seen n p (at (fault 0 0))
+module _ (s : List ℕ) (i : ℕ) (seen : Seen) (n p : ℕ) (left : Left s i seen n p) where
+  pub none_left : 8 ≤ i → took (record { figures = n; places = p }) ≡ judge (first (cells 6 2 (columns nothing 6 2 s) s)) (amount_of s)
   unfolding cells columns first figures_of
   none_left h =
       let e : 8 - i ≡ 0 = omega arith in
-      record { fault = rw e; figures = λ z. rw e; places = λ z. rw (e, no_places seen i s) (omega arith) }
+      let z : first (cells 6 2 (columns nothing 6 2 s) s) ≡ fault 0 0 = sym (rw e at left.tests) in
+      let f : n ≡ figures_of 0 6 2 s = rw e at left.figures in
+      let q : p ≡ places_of 6 2 s = omega (arith, rw (e, no_places seen i s) at (left.places (ap (λ (f : Fault). f.number) z))) in
+      rw z (λ j. took (record { figures = f j; places = q j }))
 
   module _ (h : i < 8) where
     here : 8 - i ≡ suc (7 - i)
@@ -161,22 +166,20 @@ module _ (s : List ℕ) (i : ℕ) (seen : Seen) (n p : ℕ) where
     after : 8 - (i + 1) ≡ 7 - i
     after = omega arith
 
-    pub stopped : among (may seen (7 - i)) (get_or s i 0) ≡ false → Reads s i seen n p (at (fault 5 (i + 1)))
-    stopped m = record { fault = rw (here, judged, m); figures = λ z. absurd (omega arith); places = λ z. absurd (omega arith) }
+    pub stopped : among (may seen (7 - i)) (get_or s i 0) ≡ false → refused 5 (i + 1) ≡ judge (first (cells 6 2 (columns nothing 6 2 s) s)) (amount_of s)
+    stopped m = let z : first (cells 6 2 (columns nothing 6 2 s) s) ≡ fault 5 (i + 1) = sym (rw (here, judged, m) at left.tests) in rw z refl
 
-    figures_on : figures_of (with_figure n (get_or s i 0)) (8 - (i + 1)) (i + 1) s ≡ figures_of n (8 - i) i s
+    pub went_on : among (may seen (7 - i)) (get_or s i 0) ≡ true →
+        Left s (i + 1) (next seen (get_or s i 0)) (with_figure n (get_or s i 0)) (p + counted (next seen (get_or s i 0)))
     unfolding figures_of with_figure
-    figures_on = rw (here, after)
-
-    pub went_on : among (may seen (7 - i)) (get_or s i 0) ≡ true → (r : Amount) →
-        Reads s (i + 1) (next seen (get_or s i 0)) (with_figure n (get_or s i 0)) (p + counted (next seen (get_or s i 0))) r → Reads s i seen n p r
-    went_on m r h =
-        let f : r.fault ≡ first (cells (7 - i) (i + 1) (columns (next seen (get_or s i 0)) (7 - i) (i + 1) s) s) = rw after at h.fault in
+    went_on m =
+        let f : first (cells (7 - i) (i + 1) (columns (next seen (get_or s i 0)) (7 - i) (i + 1) s) s) ≡ first (cells 6 2 (columns nothing 6 2 s) s) = rw (here, judged, m) at left.tests in
         record {
-          fault = rw (here, judged, m) f;
-          figures = λ z. h.figures z ∙ figures_on;
-          places = λ z. let q : r.places ≡ p + counted (next seen (get_or s i 0)) + places_from (next seen (get_or s i 0)) (7 - i) (i + 1) s = rw after at (h.places z) in
-              rw here (omega (arith, adds seen (7 - i) i s m (sym (ap (λ (f : Fault). f.number) f) ∙ z)));
+          tests = rw after f;
+          figures = rw after (rw here at left.figures);
+          places = λ z. let q = adds seen (7 - i) i s m (ap (λ (f : Fault). f.number) f ∙ z) in
+              let e : p + places_from seen (suc (7 - i)) i s ≡ places_of 6 2 s = rw here at (left.places z) in
+              rw after (omega arith);
         }
 
 pub counted_most : (seen : Seen) → counted seen ≤ 1

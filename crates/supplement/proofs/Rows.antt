@@ -2,7 +2,7 @@
 -- Assumes nothing.
 use Prim.Native.Nat.{ℕ, zero, suc, ◌+◌, ◌-◌, ◌<◌, ◌≤◌}
 use Prim.Native.String.{String}
-use mathlib.Core.Path.{◌≡◌, refl, ◌∙◌, sym, ap}
+use mathlib.Core.Path.{◌≡◌, refl, ◌∙◌, ap}
 use mathlib.Core.Bool.{Bool, true, false, cond, not, ◌&&◌, and_assoc, and-true}
 use mathlib.Core.List.{List, [], ◌∷◌, ◌++◌}
 use native.Mathlib.Omega.{arith}
@@ -10,14 +10,14 @@ use borrow.Author.Tests.{le-leb, eq-eqb, ne_eqb}
 use lib.Dec.{eqb}
 use lib.ListN.{length, get_or, take, replicate}
 use Rattle.cells.specs.Text.{among, digit}
-use Rattle.cells.specs.Test.{test, first, fault}
-use Rattle.cells.specs.Cells.{Cell, set, upto, cells}
-use Rattle.cells.specs.Code.Mask.{value, has, scan, either}
+use Rattle.cells.specs.Test.{test, first, passes}
+use Rattle.cells.specs.Cells.{char, Cell, set, upto, cells}
+use Rattle.cells.specs.Code.Mask.{value, has, scan, and_then}
 use Rattle.cells.proofs.Split.{split}
 use Rattle.cells.proofs.Bridge.{Agrees, agrees, Rows, row, then, numbered, value_digit}
 use Rattle.supplement.specs.Supplement.{to31, to35, last_day, interval_cells, week_cells, empty_week, more_days, date_cells, count_cells, amount_cells}
 use Rattle.supplement.specs.Amount.{columns, nothing}
-use Rattle.supplement.specs.Code.Read.{rule_of_week, day_count}
+use Rattle.supplement.specs.Code.Read.{day_count}
 
 in_31 : Agrees 0xFFFF_FFFE to31
 unfolding value has among
@@ -42,11 +42,6 @@ in_period = agrees 0x5_0040_0000 "YMW" refl
 in_order : Agrees 0b11_1110 "12345"
 unfolding value has among
 in_order = agrees 0b11_1110 "12345" refl
-
-by_rule : (e : Bool) → rule_of_week e ≡ first (test 8 2 (not e) ∷ [])
-unfolding rule_of_week first
-by_rule true = refl
-by_rule false = refl
 
 abbrev mark : (false ≡ false) × (36 ≤ 36) × Agrees 0b11 "01"
 mark = (refl, omega arith, in_mark)
@@ -122,19 +117,21 @@ module _ (s : List ℕ) (small : (p : ℕ) → get_or s p 0 < 256) (long : lengt
   marked =
       rw from_2nd (row s small 7 36 7 1 [] (replicate 7 0b11) week_cells (mark, (mark, (mark, (mark, (mark, (mark, (mark, tt))))))))
 
-  pub week : either (scan (replicate 7 0b11) 7 36 s (length s - 1) 0 1) (rule_of_week (empty_week s)) ≡ first (cells 7 1 week_cells s ++ (test 8 2 (not (empty_week s)) ∷ []))
-  week = rw (marked, by_rule (empty_week s)) (sym (then (cells 7 1 week_cells s) (test 8 2 (not (empty_week s)) ∷ []) (numbered 7 1 week_cells s)))
+  pub week : passes (first (cells 7 1 week_cells s ++ (test 8 2 (not (empty_week s)) ∷ []))) ≡
+      and_then (passes (scan (replicate 7 0b11) 7 36 s (length s - 1) 0 1)) (passes (first (test 8 2 (not (empty_week s)) ∷ [])))
+  week = rw marked (then (cells 7 1 week_cells s) (test 8 2 (not (empty_week s)) ∷ []) (numbered 7 1 week_cells s))
 
   -- the second character judged by itself, then those from the third on
   head : (x : String) (m : ℕ) (xs : List Cell) → Agrees m x →
-      first (cells 7 1 (set x ∷ xs) s) ≡ cond (has m (digit (get_or s 1 0))) (first (cells 6 2 xs s)) (fault 5 2)
-  unfolding cells first
-  head x m xs h = rw (← value_digit (get_or s 1 0) (small 1), h (get_or s 1 0) (small 1))
+      passes (first (cells 7 1 (set x ∷ xs) s)) ≡ and_then (passes (first (test 5 2 (has m (digit (char s 2))) ∷ []))) (passes (first (cells 6 2 xs s)))
+  unfolding cells
+  head x m xs h = rw (← value_digit (get_or s 1 0) (small 1), h (get_or s 1 0) (small 1)) (then (test 5 2 (among x (char s 2)) ∷ []) (cells 6 2 xs s) (refl, tt))
 
-  pub date : first (cells 7 1 (date_cells s) s) ≡
-      cond (has 0x1FFF (digit (get_or s 1 0)))
-      (first (cells 6 2 (upto (last_day (digit (get_or s 1 0))) to31 ∷ more_days (last_day (digit (get_or s 1 0))) 5 3 s) s)) (fault 5 2)
-  date = head "0123456789ABC" 0x1FFF (upto (last_day (digit (get_or s 1 0))) to31 ∷ more_days (last_day (digit (get_or s 1 0))) 5 3 s) in_month
+  pub date : passes (first (cells 7 1 (date_cells s) s)) ≡
+      and_then (passes (first (test 5 2 (has 0x1FFF (digit (char s 2))) ∷ [])))
+      (passes (first (cells 6 2 (upto (last_day (digit (char s 2))) to31 ∷ more_days (last_day (digit (char s 2))) 5 3 s) s)))
+  date = head "0123456789ABC" 0x1FFF (upto (last_day (digit (char s 2))) to31 ∷ more_days (last_day (digit (char s 2))) 5 3 s) in_month
 
-  pub amount : first (cells 7 1 (amount_cells s) s) ≡ cond (has 0b11_1110 (digit (get_or s 1 0))) (first (cells 6 2 (columns nothing 6 2 s) s)) (fault 5 2)
+  pub amount : passes (first (cells 7 1 (amount_cells s) s)) ≡
+      and_then (passes (first (test 5 2 (has 0b11_1110 (digit (char s 2))) ∷ []))) (passes (first (cells 6 2 (columns nothing 6 2 s) s)))
   amount = head "12345" 0b11_1110 (columns nothing 6 2 s) in_order

@@ -1,18 +1,18 @@
 // Supplementary codes: eight characters that say on which days, how often or how much a medicine is taken.
-#![tactic(auto)]
+#![tactic(auto, using(cells::proofs::Tests::tests, cells::proofs::Bridge::value_digit), unfolding(cells::specs::Text::among, cells::specs::Test::first, crate::specs::Supplement::says, crate::specs::Supplement::empty_week, crate::specs::Supplement::last_day, crate::specs::Amount::may, crate::specs::Amount::next))]
 
 ghost use Rattle.std.specs.Prelude.{◌≡◌, ◌+◌, ◌-◌, ◌^◌, ◌<◌, ◌≤◌, length, get_or, [], ◌∷◌, ◌++◌, not};
-ghost use Rattle.cells.specs.Text.{among, digit};
-ghost use Rattle.cells.specs.Test.{test, first, judge};
+ghost use Rattle.cells.specs.Text.{among, digit as digit_of};
+ghost use Rattle.cells.specs.Test.{test, first, passes, judge};
 ghost use Rattle.cells.specs.Cells.{char, upto, cells as cells_of};
 ghost use Rattle.supplement.specs.Supplement.{to31, last_day, interval_cells, week_cells, empty_week, more_days, date_cells, count_cells, amount_cells, tests, saying, no_week, no_days, week_of, days_of, says as says_of, read_supplement, said};
 ghost use Rattle.supplement.specs.Amount.{figures as figure_set, nothing, may as may_of, next as next_of, columns, figures_of, places_of};
-ghost use Rattle.supplement.specs.Code.Read.{rule_of_week, day_count, told, with_figure, counted as counted_of, Reads};
+ghost use Rattle.supplement.specs.Code.Read.{day_count, told, with_figure, counted as counted_of, amount_of, said_amount};
 
 use cells::Fault;
 
 // The days of a week, 1 for a day that is meant and 0 for one that is not.
-#[derive(Clone, Copy)]
+#[derive(Clone, Copy, PartialEq, Eq, Debug)]
 pub struct Week {
     pub sunday: u8,
     pub monday: u8,
@@ -24,7 +24,7 @@ pub struct Week {
 }
 
 // One to six days of a month, rising, and 0 for each that is left over.
-#[derive(Clone, Copy)]
+#[derive(Clone, Copy, PartialEq, Eq, Debug)]
 pub struct Days {
     pub d1: u8,
     pub d2: u8,
@@ -35,7 +35,8 @@ pub struct Days {
 }
 
 // What a supplementary code says; what its letter does not name is 0.
-#[derive(Clone, Copy)]
+// Kept: numbers, and no enum of the letters, since `supplement_writer::write` answers 35 for any numbers that a caller from C hands over.
+#[derive(Clone, Copy, PartialEq, Eq, Debug)]
 pub struct Supplement {
     // The code's first character: I, W, D, C or V.
     pub letter: u8,
@@ -67,10 +68,9 @@ enum Seen {
     End,
 }
 
-// What the columns of an amount read as: the first fault, and up to there the digits as a number and the places after the point.
+// What the columns of an amount read as: the digits as a number, and how many of them stand after the point.
 #[derive(Clone, Copy)]
 struct Amount {
-    fault: Fault,
     figures: u32,
     places: u8,
 }
@@ -94,122 +94,55 @@ const ANY: u8 = 36;
 // The last day of every month, then of months 1 to 12.
 const LAST_DAYS: [u8; 13] = [31, 31, 29, 31, 30, 31, 30, 31, 31, 30, 31, 30, 31];
 
-// The value of the character at an offset.
-fn digit_at(s: &[u8], i: usize) -> u8
-    requires { i < length s.now }
-    ensures { result ≡ digit (get_or s.now i 0) }
+// The value that a character says.
+fn digit(c: u8) -> u8
+    ensures { result ≡ digit_of c }
 {
-    cells::value(s[i])
+    cells::value(c)
 }
 
-fn interval_fault(s: &[u8]) -> Fault
-    requires { length s.now ≡ 8 }
-    ensures { result ≡ first (cells_of 7 1 interval_cells s.now) }
-{
-    let sets = [TO_31, TO_31];
-    cells::first_fault(&sets, 2, ANY, s, 1)
-}
-
-fn empty_week(s: &[u8]) -> bool
-    requires { length s.now ≡ 8 }
+fn empty_week(s: &[u8; 8]) -> bool
     ensures { result ≡ empty_week s.now }
 {
-    (s[1] == b'0')
-        & (s[2] == b'0')
-        & (s[3] == b'0')
-        & (s[4] == b'0')
-        & (s[5] == b'0')
-        & (s[6] == b'0')
-        & (s[7] == b'0')
-}
-
-// A week with no day in it is 8 at 2.
-fn week_rule(empty: bool) -> Fault
-    ensures { result ≡ rule_of_week empty }
-{
-    if empty {
-        return Fault {
-            number: 8,
-            place: 2,
-        };
-    }
-    Fault {
-        number: 0,
-        place: 0,
-    }
-}
-
-fn week_fault(s: &[u8]) -> Fault
-    requires { length s.now ≡ 8 }
-    ensures { result ≡ first (cells_of 7 1 week_cells s.now ++ (test 8 2 (not (empty_week s.now)) ∷ [])) }
-{
-    let sets = [MARK; 7];
-    let f = cells::first_fault(&sets, 7, ANY, s, 1);
-    if f.number != 0 {
-        return f;
-    }
-    week_rule(empty_week(s))
+    s[1] == b'0'
+        && s[2] == b'0'
+        && s[3] == b'0'
+        && s[4] == b'0'
+        && s[5] == b'0'
+        && s[6] == b'0'
+        && s[7] == b'0'
 }
 
 fn last_day(month: u8) -> u8
     ensures { result ≡ last_day month }
 {
-    if month < 13 {
-        return LAST_DAYS[month as usize];
-    }
-    0
+    LAST_DAYS.get(usize::from(month)).copied().unwrap_or(0)
 }
 
 // How many days a D code has room to name: the first, and those up to the first 0 after it.
-fn day_count(s: &[u8]) -> usize
-    requires { length s.now ≡ 8 }
+fn day_count(s: &[u8; 8]) -> usize
     ensures { result ≡ 1 + day_count 5 3 s.now }
 {
-    let mut i: usize = 3;
-    while i < 8 {
+    for i in 3..8 {
         if s[i] == b'0' {
             return i - 2;
         }
-        i += 1;
     }
     6
 }
 
-fn days_fault(s: &[u8], last: u8) -> Fault
-    requires { length s.now ≡ 8 }
-    ensures { result ≡ first (cells_of 6 2 (upto last to31 ∷ more_days last 5 3 s.now) s.now) }
+fn days_fault(s: &[u8; 8], last: u8) -> Result<(), Fault>
+    ensures { result ≡ passes (first (cells_of 6 2 (upto last to31 ∷ more_days last 5 3 s.now) s.now)) }
 {
     let sets = [TO_31; 6];
     let n = day_count(s);
     cells::first_fault(&sets[..n], 1, last, s, 2)
 }
 
-fn date_fault(s: &[u8]) -> Fault
-    requires { length s.now ≡ 8 }
-    ensures { result ≡ first (cells_of 7 1 (date_cells s.now) s.now) }
-{
-    let month = digit_at(s, 1);
-    if cells::has(MONTH, month) {
-        return days_fault(s, last_day(month));
-    }
-    Fault {
-        number: 5,
-        place: 2,
-    }
-}
-
-fn count_fault(s: &[u8]) -> Fault
-    requires { length s.now ≡ 8 }
-    ensures { result ≡ first (cells_of 7 1 count_cells s.now) }
-{
-    let sets = [PERIOD, TO_35];
-    cells::first_fault(&sets, 2, ANY, s, 1)
-}
-
 fn is_figure(c: u8) -> bool
     ensures { result ≡ among figure_set c }
 {
-    (b'0' <= c) & (c <= b'9')
+    c.is_ascii_digit()
 }
 
 // May a character stand in the next column, where so many columns follow it? A point needs a digit after it.
@@ -230,19 +163,14 @@ fn may(seen: Seen, left: usize, c: u8) -> bool
 fn next(seen: Seen, c: u8) -> Seen
     ensures { told result ≡ next_of (told seen) c }
 {
-    match seen {
-        Seen::Nothing => if c == b'0' { Seen::Lone } else { Seen::Whole },
-        Seen::Lone => if c == b'.' { Seen::Point } else { Seen::End },
-        Seen::Whole => if c == b'.' {
-            Seen::Point
-        } else if c == b'N' {
-            Seen::End
-        } else {
-            Seen::Whole
-        },
-        Seen::Point => Seen::Decimals,
-        Seen::Decimals => if c == b'N' { Seen::End } else { Seen::Decimals },
-        Seen::End => Seen::End,
+    match (seen, c) {
+        (Seen::Nothing, b'0') => Seen::Lone,
+        (Seen::Nothing, _) => Seen::Whole,
+        (Seen::Lone | Seen::Whole, b'.') => Seen::Point,
+        (Seen::Lone | Seen::Whole | Seen::Decimals, b'N') => Seen::End,
+        (Seen::Whole, _) => Seen::Whole,
+        (Seen::Point | Seen::Decimals, _) => Seen::Decimals,
+        (Seen::Lone | Seen::End, _) => Seen::End,
     }
 }
 
@@ -251,13 +179,10 @@ fn with_figure(n: u32, c: u8) -> u32
     requires { n < 100000 }
     ensures { result ≡ with_figure n c }
 {
-    if c < b'0' {
-        return n;
+    match c {
+        b'0'..=b'9' => n * 10 + u32::from(c - b'0'),
+        _ => n,
     }
-    if b'9' < c {
-        return n;
-    }
-    n * 10 + (c - b'0') as u32
 }
 
 // The column just seen is a place after the point, or is not.
@@ -270,81 +195,26 @@ fn counted(seen: Seen) -> u8
     }
 }
 
-// Reads an amount over the columns left, from `at` on, after what has been seen so far: what it was, its digits and its places.
-fn amount_from(s: &[u8], at: usize, seen: Seen, figures: u32, places: u8) -> Amount
-    requires { (length s.now ≡ 8) × (2 ≤ at) × (at ≤ 8) × (figures < 10 ^ (at - 2)) × (places ≤ at) }
-    ensures { Reads s.now at (told seen) figures places result }
+// Reads the six columns of an amount.
+fn read_amount(s: &[u8; 8]) -> Result<Amount, Fault>
+    ensures { said_amount result ≡ judge (first (cells_of 6 2 (columns nothing 6 2 s.now) s.now)) (amount_of s.now) }
 {
-    if at == 8 {
-        return Amount {
-            fault: Fault {
-                number: 0,
-                place: 0,
-            },
-            figures: figures,
-            places: places,
-        };
+    let mut seen = Seen::Nothing;
+    let mut figures: u32 = 0;
+    let mut places: u8 = 0;
+    for at in 2..8 {
+        let c = s[at];
+        if !may(seen, 7 - at, c) {
+            return Err(Fault {
+                number: 5,
+                place: at + 1,
+            });
+        }
+        seen = next(seen, c);
+        figures = with_figure(figures, c);
+        places += counted(seen);
     }
-    let c = s[at];
-    if may(seen, 7 - at, c) {
-        let then = next(seen, c);
-        return amount_from(
-            s,
-            at + 1,
-            then,
-            with_figure(figures, c),
-            places + counted(then),
-        );
-    }
-    Amount {
-        fault: Fault {
-            number: 5,
-            place: at + 1,
-        },
-        figures: figures,
-        places: places,
-    }
-}
-
-fn amount_fault(s: &[u8]) -> Fault
-    requires { length s.now ≡ 8 }
-    ensures { result ≡ first (cells_of 7 1 (amount_cells s.now) s.now) }
-{
-    if cells::has(ORDER, digit_at(s, 1)) {
-        let a = amount_from(s, 2, Seen::Nothing, 0, 0);
-        return a.fault;
-    }
-    Fault {
-        number: 5,
-        place: 2,
-    }
-}
-
-// The first fault of eight characters, tested from left to right.
-fn fault_of(s: &[u8]) -> Fault
-    requires { length s.now ≡ 8 }
-    ensures { result ≡ first (tests s.now) }
-{
-    let c = s[0];
-    if c == b'I' {
-        return interval_fault(s);
-    }
-    if c == b'W' {
-        return week_fault(s);
-    }
-    if c == b'D' {
-        return date_fault(s);
-    }
-    if c == b'C' {
-        return count_fault(s);
-    }
-    if c == b'V' {
-        return amount_fault(s);
-    }
-    Fault {
-        number: 2,
-        place: 1,
-    }
+    Ok(Amount { figures, places })
 }
 
 // A code of which only the letter is known.
@@ -381,127 +251,119 @@ fn only(letter: u8) -> Supplement
     }
 }
 
-fn interval(s: &[u8]) -> Supplement
-    requires { length s.now ≡ 8 }
-    ensures { result ≡ saying (char s.now 1) (digit (char s.now 2)) (digit (char s.now 3)) no_week 0 no_days 0 0 0 0 0 }
+fn interval(s: &[u8; 8]) -> Result<Supplement, Fault>
+    ensures { said result ≡ judge (first (cells_of 7 1 interval_cells s.now)) (saying (char s.now 1) (digit_of (char s.now 2)) (digit_of (char s.now 3)) no_week 0 no_days 0 0 0 0 0) }
 {
-    let mut x = only(s[0]);
-    x.on = digit_at(s, 1);
-    x.off = digit_at(s, 2);
-    x
+    cells::first_fault(&[TO_31, TO_31], 2, ANY, s, 1)?;
+    Ok(Supplement {
+        on: digit(s[1]),
+        off: digit(s[2]),
+        ..only(s[0])
+    })
 }
 
-fn week_of(s: &[u8]) -> Week
-    requires { length s.now ≡ 8 }
+fn week_of(s: &[u8; 8]) -> Week
     ensures { result ≡ week_of s.now }
 {
     Week {
-        sunday: digit_at(s, 1),
-        monday: digit_at(s, 2),
-        tuesday: digit_at(s, 3),
-        wednesday: digit_at(s, 4),
-        thursday: digit_at(s, 5),
-        friday: digit_at(s, 6),
-        saturday: digit_at(s, 7),
+        sunday: digit(s[1]),
+        monday: digit(s[2]),
+        tuesday: digit(s[3]),
+        wednesday: digit(s[4]),
+        thursday: digit(s[5]),
+        friday: digit(s[6]),
+        saturday: digit(s[7]),
     }
 }
 
-fn weekdays(s: &[u8]) -> Supplement
-    requires { length s.now ≡ 8 }
-    ensures { result ≡ saying (char s.now 1) 0 0 (week_of s.now) 0 no_days 0 0 0 0 0 }
+// A week with no day in it is 8 at 2.
+fn weekdays(s: &[u8; 8]) -> Result<Supplement, Fault>
+    ensures { said result ≡ judge (first (cells_of 7 1 week_cells s.now ++ (test 8 2 (not (empty_week s.now)) ∷ []))) (saying (char s.now 1) 0 0 (week_of s.now) 0 no_days 0 0 0 0 0) }
 {
-    let mut x = only(s[0]);
-    x.week = week_of(s);
-    x
+    cells::first_fault(&[MARK; 7], 7, ANY, s, 1)?;
+    cells::test(8, 2, !empty_week(s))?;
+    Ok(Supplement {
+        week: week_of(s),
+        ..only(s[0])
+    })
 }
 
-fn days_of(s: &[u8]) -> Days
-    requires { length s.now ≡ 8 }
+fn days_of(s: &[u8; 8]) -> Days
     ensures { result ≡ days_of s.now }
 {
     Days {
-        d1: digit_at(s, 2),
-        d2: digit_at(s, 3),
-        d3: digit_at(s, 4),
-        d4: digit_at(s, 5),
-        d5: digit_at(s, 6),
-        d6: digit_at(s, 7),
+        d1: digit(s[2]),
+        d2: digit(s[3]),
+        d3: digit(s[4]),
+        d4: digit(s[5]),
+        d5: digit(s[6]),
+        d6: digit(s[7]),
     }
 }
 
-fn dates(s: &[u8]) -> Supplement
-    requires { length s.now ≡ 8 }
-    ensures { result ≡ saying (char s.now 1) 0 0 no_week (digit (char s.now 2)) (days_of s.now) 0 0 0 0 0 }
+fn dates(s: &[u8; 8]) -> Result<Supplement, Fault>
+    ensures { said result ≡ judge (first (cells_of 7 1 (date_cells s.now) s.now)) (saying (char s.now 1) 0 0 no_week (digit_of (char s.now 2)) (days_of s.now) 0 0 0 0 0) }
 {
-    let mut x = only(s[0]);
-    x.month = digit_at(s, 1);
-    x.days = days_of(s);
-    x
+    let month = digit(s[1]);
+    cells::test(5, 2, cells::has(MONTH, month))?;
+    days_fault(s, last_day(month))?;
+    Ok(Supplement {
+        month,
+        days: days_of(s),
+        ..only(s[0])
+    })
 }
 
-fn times(s: &[u8]) -> Supplement
-    requires { length s.now ≡ 8 }
-    ensures { result ≡ saying (char s.now 1) 0 0 no_week 0 no_days (char s.now 2) (digit (char s.now 3)) 0 0 0 }
+fn times(s: &[u8; 8]) -> Result<Supplement, Fault>
+    ensures { said result ≡ judge (first (cells_of 7 1 count_cells s.now)) (saying (char s.now 1) 0 0 no_week 0 no_days (char s.now 2) (digit_of (char s.now 3)) 0 0 0) }
 {
-    let mut x = only(s[0]);
-    x.period = s[1];
-    x.count = digit_at(s, 2);
-    x
+    cells::first_fault(&[PERIOD, TO_35], 2, ANY, s, 1)?;
+    Ok(Supplement {
+        period: s[1],
+        count: digit(s[2]),
+        ..only(s[0])
+    })
 }
 
-fn dose(s: &[u8]) -> Supplement
-    requires { (length s.now ≡ 8) × ((first (cells_of 6 2 (columns nothing 6 2 s.now) s.now)).number ≡ 0) }
-    ensures { result ≡ saying (char s.now 1) 0 0 no_week 0 no_days 0 0 (digit (char s.now 2)) (figures_of 0 6 2 s.now) (places_of 6 2 s.now) }
+fn dose(s: &[u8; 8]) -> Result<Supplement, Fault>
+    ensures { said result ≡ judge (first (cells_of 7 1 (amount_cells s.now) s.now)) (saying (char s.now 1) 0 0 no_week 0 no_days 0 0 (digit_of (char s.now 2)) (figures_of 0 6 2 s.now) (places_of 6 2 s.now)) }
 {
-    let mut x = only(s[0]);
-    let a = amount_from(s, 2, Seen::Nothing, 0, 0);
-    x.order = digit_at(s, 1);
-    x.figures = a.figures;
-    x.places = a.places;
-    x
+    let order = digit(s[1]);
+    cells::test(5, 2, cells::has(ORDER, order))?;
+    let Amount { figures, places } = read_amount(s)?;
+    Ok(Supplement {
+        order,
+        figures,
+        places,
+        ..only(s[0])
+    })
 }
 
-// What eight characters with no fault say.
-fn says(s: &[u8]) -> Supplement
-    requires { (length s.now ≡ 8) × ((first (tests s.now)).number ≡ 0) }
-    ensures { result ≡ says_of s.now }
-{
-    let c = s[0];
-    if c == b'I' {
-        return interval(s);
-    }
-    if c == b'W' {
-        return weekdays(s);
-    }
-    if c == b'D' {
-        return dates(s);
-    }
-    if c == b'C' {
-        return times(s);
-    }
-    dose(s)
-}
-
-fn read_eight(s: &[u8]) -> Result<Supplement, Fault>
-    requires { length s.now ≡ 8 }
+fn read_eight(s: &[u8; 8]) -> Result<Supplement, Fault>
     ensures { said result ≡ judge (first (tests s.now)) (says_of s.now) }
 {
-    let f = fault_of(s);
-    if f.number == 0 {
-        return Ok(says(s));
+    match s[0] {
+        b'I' => interval(s),
+        b'W' => weekdays(s),
+        b'D' => dates(s),
+        b'C' => times(s),
+        b'V' => dose(s),
+        _ => Err(Fault {
+            number: 2,
+            place: 1,
+        }),
     }
-    Err(f)
 }
 
 // Reads a supplementary code.
 pub fn read(s: &[u8]) -> Result<Supplement, Fault>
     ensures { said result ≡ read_supplement s.now }
 {
-    if s.len() == 8 {
-        return read_eight(s);
+    match <&[u8; 8]>::try_from(s) {
+        Ok(code) => read_eight(code),
+        Err(_) => Err(Fault {
+            number: 1,
+            place: 0,
+        }),
     }
-    Err(Fault {
-        number: 1,
-        place: 0,
-    })
 }

@@ -7,6 +7,8 @@ use native.Mathlib.Omega.{arith}
 use borrow.Author.Tests.{eqb-true}
 use lib.Dec.{eqb}
 use lib.ListN.{length}
+use Rattle.std.specs.Prelude.{Result}
+use Rattle.cells.specs.declared.Fault.{Fault}
 use Rattle.cells.specs.Test.{took}
 use Rattle.cells.proofs.Split.{split}
 use Rattle.cells.proofs.Back.{taken}
@@ -15,7 +17,6 @@ use Rattle.supplement.specs.Supplement.{tests, says, read_supplement}
 use Rattle.supplement.specs.declared.Supplement.{Supplement}
 use Rattle.supplement_writer.specs.Writes.{WritesSupplement}
 use Rattle.supplement_writer.specs.Print.{raw}
-use Rattle.supplement_writer.specs.declared.Written.{Written}
 use Rattle.supplement_writer.proofs.Back.{eight}
 
 -- A code that reads as a record is what the record is written as.
@@ -34,7 +35,5 @@ pub one_code : (s t : List ℕ) (x : Supplement) → read_supplement s ≡ took 
 one_code s t x h k = sym (back s x h) ∙ back t x k
 
 -- Two answers of the writer that meet its statement are equal.
-pub one_written : (x : Supplement) (v w : Written) → WritesSupplement x v → WritesSupplement x w → v ≡ w
-one_written x v w hv hw =
-    let e = writing.one_written Supplement read_supplement _ raw back x v.number w.number v.code w.code hv hw in
-    λ j. record { number = e.0 j; code = e.1 j }
+pub one_written : (x : Supplement) (v w : Result (List ℕ) Fault) → WritesSupplement x v → WritesSupplement x w → v ≡ w
+one_written x v w hv hw = writing.one_written Supplement read_supplement raw back x v w hv hw

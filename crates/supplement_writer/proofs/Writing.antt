@@ -1,19 +1,20 @@
 -- The writer's answer: the characters where they read back as the record, and else 35, since no other characters can.
 -- Assumes nothing.
-use Prim.Native.Nat.{ℕ}
-use mathlib.Core.Path.{◌≡◌, ◌∙◌, sym, ap}
-use mathlib.Core.Bool.{true, false}
-use native.Mathlib.Omega.{arith}
+use mathlib.Core.Path.{◌≡◌, refl, ◌∙◌, sym, ap}
+use mathlib.Core.Bool.{true, cond}
 use lib.ListN.{get_or}
-use Rattle.cells.specs.Test.{Answer, took, refused}
+use Rattle.cells.specs.Test.{took, fault}
 use Rattle.cells.specs.Same.{eqs}
+use Rattle.cells.proofs.Split.{split}
 use Rattle.cells.proofs.Alike.{and_left, and_right}
 use Rattle.cells.proofs.Same.{eqs_eq, eqs_self}
-use Rattle.cells.proofs.Writing.{writes}
-use Rattle.supplement.specs.Supplement.{read_supplement}
+use Rattle.cells.proofs.Writing.{writes, refuses}
+use Rattle.supplement.specs.Supplement.{read_supplement, said}
+use Rattle.supplement.proofs.Laws.{one_reading}
+use Rattle.std.specs.Prelude.{Err, Ok, Result}
+use Rattle.cells.specs.declared.Fault.{Fault}
 use Rattle.supplement.specs.declared.Supplement.{Supplement}
 use Rattle.supplement_writer.specs.Writes.{WritesSupplement}
-use Rattle.supplement_writer.specs.Code.Write.{answer}
 use Rattle.supplement_writer.specs.Print.{raw, of_head, of_week, of_days, same, agrees}
 use Rattle.supplement_writer.proofs.Laws.{back}
 
@@ -46,15 +47,21 @@ same_record a b h =
       places = get_or (f i) 8 0;
     }
 
-agrees_took : (u : Answer Supplement) (x : Supplement) → agrees u x ≡ true → u ≡ took x
-agrees_took (took y) x h = ap took (same_record y x h)
-agrees_took (refused n p) x h = absurd (let z : ◌≡◌ {A = ℕ} 0 1 = cc in omega arith)
+same_self : (x : Supplement) → same x x ≡ true
+same_self x = simp (eqs_self (of_head x), eqs_self (of_week x.week), eqs_self (of_days x.days))
 
-agrees_self : (x : Supplement) → agrees (took x) x ≡ true
-agrees_self x = simp (eqs_self (of_head x), eqs_self (of_week x.week), eqs_self (of_days x.days))
+module _ (x : Supplement) (u : Result Supplement Fault) (r : said u ≡ read_supplement (raw x)) where
+  -- the record was read back
+  pub written : (y : Supplement) → u ≡ Ok y → y ≡ x → WritesSupplement x (Ok (raw x))
+  written y h e = writes Supplement read_supplement raw back x (sym r ∙ ap said h ∙ ap took e)
 
-pub written : (x : Supplement) → WritesSupplement x (answer (agrees (read_supplement (raw x)) x) (raw x))
-written x =
-    writes Supplement read_supplement _ raw back x (agrees (read_supplement (raw x)) x) (λ a. agrees_took (read_supplement (raw x)) x a)
-    (λ a h. let k : false ≡ true = sym a ∙ ap (λ u. agrees u x) h ∙ agrees_self x in
-    let y : ◌≡◌ {A = ℕ} 0 1 = cc in omega arith)
+  -- another was, or none
+  pub unwritten : (u ≡ Ok x → ⊥) → WritesSupplement x (Err (fault 35 0))
+  unwritten n = refuses Supplement read_supplement raw back x (λ h. n (one_reading u (Ok x) (r ∙ h)))
+
+-- what is printed, where it reads as the record number by number
+pub answered : (x : Supplement) (u : Result Supplement Fault) → said u ≡ read_supplement (raw x) → WritesSupplement x (cond (agrees (said u) x) (Ok (raw x)) (Err (fault 35 0)))
+answered x (Ok y) r =
+    split (same y x) (λ e. simp e (written x (Ok y) r y refl (same_record y x e)))
+    (λ e. simp e (unwritten x (Ok y) r (λ h. let k : y ≡ x = cc in let t : same y x ≡ true = ap (λ (z : Supplement). same z x) k ∙ same_self x in cc (t, e))))
+answered x (Err f) r = unwritten x (Err f) r (λ h. cc)

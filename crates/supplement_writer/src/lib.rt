@@ -1,22 +1,12 @@
 // Writes supplementary codes: the eight characters that read as a record.
-#![tactic(auto)]
+#![tactic(auto, using(cells::proofs::Tests::tests), unfolding(crate::specs::Print::whole, crate::specs::Print::column, crate::specs::Print::raw))]
 
 ghost use Rattle.std.specs.Prelude.{◌≡◌, ◌+◌, ◌-◌, ◌<◌, ◌≤◌};
-ghost use Rattle.cells.specs.Same.{eqs};
-ghost use Rattle.supplement.specs.Supplement.{said};
 ghost use Rattle.supplement_writer.specs.Writes.{WritesSupplement};
-ghost use Rattle.supplement_writer.specs.Code.Write.{answer as answer_of};
-ghost use Rattle.supplement_writer.specs.Print.{width as width_of, whole as whole_of, figure_at, column as column_of, raw_interval, raw_week, raw_date, raw_count, raw_amount, raw as raw_of, of_week, of_days, of_head, same as same_of, agrees as agrees_of};
+ghost use Rattle.supplement_writer.specs.Print.{width as width_of, whole as whole_of, figure_at, column as column_of, raw_interval, raw_week, raw_date, raw_count, raw_amount, raw as raw_of};
 
 use cells::Fault;
 use supplement::{Days, Supplement, Week};
-
-// The number is 0, and the code the eight characters; or the number is 35, and the code eight 0 bytes.
-#[derive(Clone, Copy)]
-pub struct Written {
-    pub number: u16,
-    pub code: [u8; 8],
-}
 
 fn raw_interval(x: Supplement) -> [u8; 8]
     ensures { result ≡ raw_interval x }
@@ -83,15 +73,13 @@ fn width(n: u32) -> u8
     ensures { result ≡ width_of 6 n }
 {
     let mut m = n;
-    let mut w: u8 = 1;
-    while w < 7 {
+    for w in 1..7 {
         if m < 10 {
             return w;
         }
-        m = m / 10;
-        w += 1;
+        m /= 10;
     }
-    w
+    7
 }
 
 // How many of a number's digits stand before the point, where so many stand after it: at least one does.
@@ -109,10 +97,8 @@ fn figure_at(n: u32, back: usize) -> u8
     ensures { result ≡ figure_at n back }
 {
     let mut m = n;
-    let mut k = back;
-    while 0 < k {
-        m = m / 10;
-        k -= 1;
+    for _k in 0..back {
+        m /= 10;
     }
     b'0' + (m % 10) as u8
 }
@@ -121,8 +107,8 @@ fn figure_at(n: u32, back: usize) -> u8
 fn column(n: u32, whole: u8, places: u8, j: usize) -> u8
     ensures { result ≡ column_of n whole places j }
 {
-    let w = whole as usize;
-    let p = places as usize;
+    let w = usize::from(whole);
+    let p = usize::from(places);
     if j < w {
         return figure_at(n, w + p - 1 - j);
     }
@@ -160,93 +146,25 @@ fn raw_amount(x: Supplement) -> [u8; 8]
 fn raw(x: Supplement) -> [u8; 8]
     ensures { result ≡ raw_of x }
 {
-    if x.letter == b'I' {
-        return raw_interval(x);
-    }
-    if x.letter == b'W' {
-        return raw_week(x.letter, x.week);
-    }
-    if x.letter == b'D' {
-        return raw_date(x.letter, x.month, x.days);
-    }
-    if x.letter == b'C' {
-        return raw_count(x);
-    }
-    raw_amount(x)
-}
-
-// Are two values equal, number by number?
-fn same_week(a: Week, b: Week) -> bool
-    ensures { result ≡ eqs (of_week a) (of_week b) }
-{
-    (a.sunday == b.sunday)
-        & ((a.monday == b.monday)
-            & ((a.tuesday == b.tuesday)
-                & ((a.wednesday == b.wednesday)
-                    & ((a.thursday == b.thursday)
-                        & ((a.friday == b.friday) & ((a.saturday == b.saturday) & true))))))
-}
-
-fn same_days(a: Days, b: Days) -> bool
-    ensures { result ≡ eqs (of_days a) (of_days b) }
-{
-    (a.d1 == b.d1)
-        & ((a.d2 == b.d2)
-            & ((a.d3 == b.d3) & ((a.d4 == b.d4) & ((a.d5 == b.d5) & ((a.d6 == b.d6) & true)))))
-}
-
-fn same_head(a: Supplement, b: Supplement) -> bool
-    ensures { result ≡ eqs (of_head a) (of_head b) }
-{
-    (a.letter == b.letter)
-        & ((a.on == b.on)
-            & ((a.off == b.off)
-                & ((a.month == b.month)
-                    & ((a.period == b.period)
-                        & ((a.count == b.count)
-                            & ((a.order == b.order)
-                                & ((a.figures == b.figures) & ((a.places == b.places) & true))))))))
-}
-
-fn same(a: Supplement, b: Supplement) -> bool
-    ensures { result ≡ same_of a b }
-{
-    let n = same_head(a, b);
-    let w = same_week(a.week, b.week);
-    let d = same_days(a.days, b.days);
-    n & (w & d)
-}
-
-fn agrees(r: Result<Supplement, Fault>, x: Supplement) -> bool
-    ensures { result ≡ agrees_of (said r) x }
-{
-    match r {
-        Ok(y) => same(y, x),
-        Err(_) => false,
-    }
-}
-
-fn answer(ok: bool, code: [u8; 8]) -> Written
-    ensures { result ≡ answer_of ok code }
-{
-    if ok {
-        return Written {
-            number: 0,
-            code: code,
-        };
-    }
-    Written {
-        number: 35,
-        code: [0; 8],
+    match x.letter {
+        b'I' => raw_interval(x),
+        b'W' => raw_week(x.letter, x.week),
+        b'D' => raw_date(x.letter, x.month, x.days),
+        b'C' => raw_count(x),
+        _ => raw_amount(x),
     }
 }
 
 // Writes a supplementary code: the characters are read back, and stand only where they read as the record.
-pub fn write(x: Supplement) -> Written
+pub fn write(x: Supplement) -> Result<[u8; 8], Fault>
     ensures { WritesSupplement x result }
 {
     let code = raw(x);
-    let r = supplement::read(&code);
-    let ok = agrees(r, x);
-    answer(ok, code)
+    match supplement::read(&code) {
+        Ok(y) if y == x => Ok(code),
+        _ => Err(Fault {
+            number: 35,
+            place: 0,
+        }),
+    }
 }

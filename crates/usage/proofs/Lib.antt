@@ -4,3 +4,4 @@ pub mod Faults
 pub mod Laws
 pub mod Former
 pub mod Times
+pub mod Reading

@@ -7,6 +7,8 @@ use native.Mathlib.Omega.{arith}
 use borrow.Author.Tests.{eqb-true}
 use lib.Dec.{eqb}
 use lib.ListN.{length}
+use Rattle.std.specs.Prelude.{Result}
+use Rattle.cells.specs.declared.Fault.{Fault}
 use Rattle.cells.specs.Test.{took}
 use Rattle.cells.proofs.Split.{split}
 use Rattle.cells.proofs.Back.{taken}
@@ -15,7 +17,6 @@ use Rattle.usage.specs.Usage.{frame, timing, says, read_usage}
 use Rattle.usage.specs.declared.Instruction.{Instruction}
 use Rattle.usage_writer.specs.Writes.{WritesUsage}
 use Rattle.usage_writer.specs.Print.{raw}
-use Rattle.usage_writer.specs.declared.Written.{Written}
 use Rattle.usage_writer.proofs.Back.{sixteen}
 
 -- a code that reads as an instruction is what the instruction is written as
@@ -36,7 +37,5 @@ pub one_code : (s t : List ℕ) (i : Instruction) → read_usage s ≡ took i �
 one_code s t i h k = sym (back s i h) ∙ back t i k
 
 -- two answers of the writer that meet its statement are equal
-pub one_written : (i : Instruction) (v w : Written) → WritesUsage i v → WritesUsage i w → v ≡ w
-one_written i v w hv hw =
-    let e = writing.one_written Instruction read_usage _ raw back i v.number w.number v.code w.code hv hw in
-    λ j. record { number = e.0 j; code = e.1 j }
+pub one_written : (i : Instruction) (v w : Result (List ℕ) Fault) → WritesUsage i v → WritesUsage i w → v ≡ w
+one_written i v w hv hw = writing.one_written Instruction read_usage raw back i v w hv hw

@@ -1,21 +1,20 @@
 -- The writer's answer: what is written is read back and compared with the instruction, so it meets the writer's statement.
 -- Assumes nothing.
 use Prim.Native.Nat.{ℕ}
-use mathlib.Core.Path.{◌≡◌, ◌∙◌, sym, ap}
-use mathlib.Core.Bool.{true}
+use mathlib.Core.Path.{◌≡◌, refl, ◌∙◌, sym, ap}
+use mathlib.Core.Bool.{Bool, true, false, cond}
 use mathlib.Core.List.{List}
-use native.Mathlib.Omega.{arith}
 use lib.Dec.{eqb}
 use lib.ListN.{length, get_or}
 use Rattle.cells.proofs.Split.{split}
 use Rattle.cells.specs.Same.{eqs}
 use Rattle.cells.proofs.Alike.{and_left, and_right}
 use Rattle.cells.proofs.Same.{eqs_eq, eqs_self}
-use Rattle.cells.proofs.Writing.{writes}
+use Rattle.cells.proofs.Writing.{writes, refuses}
+use Rattle.cells.specs.Test.{took, fault}
 use Rattle.usage.specs.Usage.{read_usage, said}
 use Rattle.usage.proofs.Laws.{one_reading}
 use Rattle.usage_writer.specs.Writes.{WritesUsage}
-use Rattle.usage_writer.specs.Code.Write.{agrees, answer}
 use Rattle.usage_writer.specs.Print.{tail, raw, of_head, of_occasions, of_hours, of_event, same}
 use Rattle.usage.specs.declared.Instruction.{Instruction}
 use Rattle.usage_writer.proofs.Laws.{back}
@@ -82,13 +81,22 @@ same_eq a b h =
 same_self : (a : Instruction) → same a a ≡ true
 same_self a = simp (eqs_self (of_head a), eqs_self (of_occasions a.occasions), eqs_self (of_hours a.hours), eqs_self (of_event a.event))
 
-agrees_taken : (u : Result Instruction Fault) (i : Instruction) → agrees u i ≡ true → u ≡ Ok i
-agrees_taken (Ok j) i h = ap Ok (sym (same_eq i j h))
-agrees_taken (Err f) i h = absurd (let z : ◌≡◌ {A = ℕ} 0 1 = cc in omega arith)
+module _ (i : Instruction) (u : Result Instruction Fault) (r : said u ≡ read_usage (raw i)) where
+  -- the instruction was read back
+  pub written : (j : Instruction) → u ≡ Ok j → j ≡ i → WritesUsage i (Ok (raw i))
+  written j h e = writes Instruction read_usage raw back i (sym r ∙ ap said h ∙ ap took e)
 
-pub written : (i : Instruction) (u : Result Instruction Fault) → said u ≡ read_usage (raw i) → WritesUsage i (answer (agrees u i) (raw i))
-written i u r =
-    writes Instruction read_usage _ raw back i (agrees u i) (λ a. sym r ∙ ap said (agrees_taken u i a))
-    (λ a h. let t = one_reading u (Ok i) (r ∙ h) in
-    let k = sym a ∙ ap (λ v. agrees v i) t ∙ same_self i in
-    let y : ◌≡◌ {A = ℕ} 0 1 = cc in omega arith)
+  -- another was, or none
+  pub unwritten : (u ≡ Ok i → ⊥) → WritesUsage i (Err (fault 35 0))
+  unwritten n = refuses Instruction read_usage raw back i (λ h. n (one_reading u (Ok i) (r ∙ h)))
+
+-- a reading is that of an instruction, number by number
+abbrev pub agrees : Result Instruction Fault → Instruction → Bool
+agrees (Ok j) i = same i j
+agrees (Err f) i = false
+
+pub answered : (i : Instruction) (u : Result Instruction Fault) → said u ≡ read_usage (raw i) → WritesUsage i (cond (agrees u i) (Ok (raw i)) (Err (fault 35 0)))
+answered i (Ok j) r =
+    split (same i j) (λ e. simp e (written i (Ok j) r j refl (sym (same_eq i j e))))
+    (λ e. simp e (unwritten i (Ok j) r (λ h. let k : j ≡ i = cc in let t : same i j ≡ true = ap (same i) k ∙ same_self i in cc (t, e))))
+answered i (Err f) r = unwritten i (Err f) r (λ h. cc)

@@ -1,3 +1,2 @@
 pub mod Print
 pub mod Writes
-pub mod Code

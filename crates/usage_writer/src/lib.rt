@@ -1,40 +1,31 @@
 // Writes usage codes: the sixteen characters that read as an instruction.
-#![tactic(auto)]
+#![tactic(auto, using(cells::proofs::Tests::tests), unfolding(crate::specs::Print::hour_letter, crate::specs::Print::mark, crate::specs::Print::tail))]
 
 ghost use Rattle.std.specs.Prelude.{◌≡◌};
-ghost use Rattle.cells.specs.Same.{eqs};
 ghost use Rattle.usage_writer.specs.Writes.{WritesUsage};
-ghost use Rattle.usage_writer.specs.Code.Write.{agrees as agrees_of, answer as answer_of};
-ghost use Rattle.usage_writer.specs.Print.{hour_letter, mark as mark_of, day_tail, clock_tail, event_tail, lone_tail, tail as tail_of, raw as raw_of, of_head, of_occasions, of_hours, of_event, same as same_of};
+ghost use Rattle.usage_writer.specs.Print.{hour_letter, mark as mark_of, day_tail, clock_tail, event_tail, lone_tail, tail as tail_of, raw as raw_of};
 
 use cells::Fault;
 use usage::{Event, Hours, Instruction, Occasions};
-
-// The number is 0, and the code the sixteen characters; or the number is 35, and the code sixteen 0 bytes.
-#[derive(Clone, Copy)]
-pub struct Written {
-    pub number: u16,
-    pub code: [u8; 16],
-}
 
 // An hour's character; 0 for none.
 fn hour_letter(h: u8) -> u8
     ensures { result ≡ hour_letter h }
 {
-    if h < 24 {
-        return 65 + h;
+    match h {
+        0..=23 => b'A' + h,
+        _ => b'0',
     }
-    48
 }
 
 // The character of what is meant or not: 9 or 0.
 fn mark(w: u8) -> u8
     ensures { result ≡ mark_of w }
 {
-    if w == 0 {
-        return 48;
+    match w {
+        0 => b'0',
+        _ => b'9',
     }
-    57
 }
 
 // The 5th to the 16th character, for each kind. Kinds 1 and 6 differ in lunch.
@@ -48,12 +39,12 @@ fn day_tail(o: Occasions, lunch: u8) -> [u8; 12]
         cells::letter(o.breakfast),
         mark(o.waking),
         hour_letter(o.hour),
-        48,
-        48,
-        48,
-        48,
-        48,
-        48,
+        b'0',
+        b'0',
+        b'0',
+        b'0',
+        b'0',
+        b'0',
     ]
 }
 
@@ -69,10 +60,10 @@ fn clock_tail(h: Hours) -> [u8; 12]
         hour_letter(h.h6),
         hour_letter(h.h7),
         hour_letter(h.h8),
-        48,
-        48,
-        48,
-        48,
+        b'0',
+        b'0',
+        b'0',
+        b'0',
     ]
 }
 
@@ -85,13 +76,13 @@ fn event_tail(e: Event) -> [u8; 12]
         cells::letter(e.condition),
         cells::letter(e.interval),
         cells::letter(e.limit),
-        48,
-        48,
-        48,
-        48,
-        48,
-        48,
-        48,
+        b'0',
+        b'0',
+        b'0',
+        b'0',
+        b'0',
+        b'0',
+        b'0',
     ]
 }
 
@@ -99,28 +90,22 @@ fn event_tail(e: Event) -> [u8; 12]
 fn lone_tail(c: u8) -> [u8; 12]
     ensures { result ≡ lone_tail c }
 {
-    [c, 48, 48, 48, 48, 48, 48, 48, 48, 48, 48, 48]
+    [
+        c, b'0', b'0', b'0', b'0', b'0', b'0', b'0', b'0', b'0', b'0', b'0',
+    ]
 }
 
 fn tail(i: Instruction) -> [u8; 12]
     ensures { result ≡ tail_of i }
 {
-    if i.kind == 1 {
-        return day_tail(i.occasions, cells::letter(i.occasions.lunch));
+    match i.kind {
+        1 => day_tail(i.occasions, cells::letter(i.occasions.lunch)),
+        2 => lone_tail(hour_letter(i.start)),
+        3 => clock_tail(i.hours),
+        5 => event_tail(i.event),
+        6 => day_tail(i.occasions, mark(i.occasions.lunch)),
+        _ => lone_tail(cells::letter(i.about)),
     }
-    if i.kind == 2 {
-        return lone_tail(hour_letter(i.start));
-    }
-    if i.kind == 3 {
-        return clock_tail(i.hours);
-    }
-    if i.kind == 5 {
-        return event_tail(i.event);
-    }
-    if i.kind == 6 {
-        return day_tail(i.occasions, mark(i.occasions.lunch));
-    }
-    lone_tail(cells::letter(i.about))
 }
 
 // The sixteen characters that read as an instruction, where any do; what cannot be written gives characters that read as something else.
@@ -148,88 +133,16 @@ fn raw(i: Instruction) -> [u8; 16]
     ]
 }
 
-// Are two values equal, number by number?
-fn same_occasions(a: Occasions, b: Occasions) -> bool
-    ensures { result ≡ eqs (of_occasions a) (of_occasions b) }
-{
-    (a.bedtime == b.bedtime)
-        & ((a.supper == b.supper)
-            & ((a.lunch == b.lunch)
-                & ((a.breakfast == b.breakfast)
-                    & ((a.waking == b.waking) & ((a.hour == b.hour) & true)))))
-}
-
-fn same_hours(a: Hours, b: Hours) -> bool
-    ensures { result ≡ eqs (of_hours a) (of_hours b) }
-{
-    (a.h1 == b.h1)
-        & ((a.h2 == b.h2)
-            & ((a.h3 == b.h3)
-                & ((a.h4 == b.h4)
-                    & ((a.h5 == b.h5)
-                        & ((a.h6 == b.h6) & ((a.h7 == b.h7) & ((a.h8 == b.h8) & true)))))))
-}
-
-fn same_event(a: Event, b: Event) -> bool
-    ensures { result ≡ eqs (of_event a) (of_event b) }
-{
-    (a.group == b.group)
-        & ((a.event == b.event)
-            & ((a.condition == b.condition)
-                & ((a.interval == b.interval) & ((a.limit == b.limit) & true))))
-}
-
-fn same_head(a: Instruction, b: Instruction) -> bool
-    ensures { result ≡ eqs (of_head a) (of_head b) }
-{
-    (a.class == b.class)
-        & ((a.detail == b.detail)
-            & ((a.kind == b.kind)
-                & ((a.times == b.times) & ((a.start == b.start) & ((a.about == b.about) & true)))))
-}
-
-fn same(a: Instruction, b: Instruction) -> bool
-    ensures { result ≡ same_of a b }
-{
-    let n = same_head(a, b);
-    let o = same_occasions(a.occasions, b.occasions);
-    let h = same_hours(a.hours, b.hours);
-    let e = same_event(a.event, b.event);
-    n & (o & (h & e))
-}
-
-// Is what was read this instruction?
-fn agrees(u: Result<Instruction, Fault>, i: Instruction) -> bool
-    ensures { result ≡ agrees_of u i }
-{
-    match u {
-        Ok(j) => same(i, j),
-        Err(_) => false,
-    }
-}
-
-// The code, or 35 where reading it did not give the instruction back.
-fn answer(ok: bool, code: [u8; 16]) -> Written
-    ensures { result ≡ answer_of ok code }
-{
-    if ok {
-        return Written {
-            number: 0,
-            code: code,
-        };
-    }
-    Written {
-        number: 35,
-        code: [0; 16],
-    }
-}
-
 // Writes an instruction: the code that reads as it, or 35 where none does.
-pub fn write(i: Instruction) -> Written
+pub fn write(i: Instruction) -> Result<[u8; 16], Fault>
     ensures { WritesUsage i result }
 {
     let code = raw(i);
-    let u = usage::read(&code);
-    let ok = agrees(u, i);
-    answer(ok, code)
+    match usage::read(&code) {
+        Ok(j) if j == i => Ok(code),
+        _ => Err(Fault {
+            number: 35,
+            place: 0,
+        }),
+    }
 }

@@ -1,6 +1,6 @@
 -- Sets of characters as masks, and the first fault of a row of them.
 -- Assumes nothing.
-use Rattle.std.specs.Prelude.{ℕ, zero, suc, ◌+◌, ◌-◌, ◌/◌, ◌%◌, ◌^◌, Bool, false, cond, List, ltb, leb, eqb, length, get_or}
+use Rattle.std.specs.Prelude.{ℕ, zero, suc, ◌+◌, ◌-◌, ◌/◌, ◌%◌, ◌^◌, Bool, false, cond, List, ltb, leb, eqb, length, get_or, ⊤, Err, Ok, Result}
 use Rattle.cells.specs.Test.{fault}
 use Rattle.cells.specs.declared.Fault.{Fault}
 
@@ -34,6 +34,11 @@ scan sets rise last s zero j i = fault 0 0
 scan sets rise last s (suc k) j i =
     cond (eqb (wrong_at sets rise last s j i) 0) (scan sets rise last s k (j + 1) (i + 1)) (fault (wrong_at sets rise last s j i) (i + 1))
 
--- the first of two faults
-unfoldable pub either : Fault → Fault → Fault
-either f g = cond (eqb f.number 0) g f
+-- a number of what is wrong, 0 for nothing, as an answer
+abbrev pub told : ℕ → Result ⊤ ℕ
+told n = cond (eqb n 0) (Ok tt) (Err n)
+
+-- the answer of two groups of tests, one after the other: the first's fault, or else what the second answers
+unfoldable pub and_then : Result ⊤ Fault → Result ⊤ Fault → Result ⊤ Fault
+and_then (Ok tt) b = b
+and_then (Err e) b = Err e

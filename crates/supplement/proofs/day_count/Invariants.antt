@@ -1,12 +1,8 @@
--- The loop's invariant: what was passed and what is left are all the days; the measure is the characters left.
--- Assumes nothing.
-use Prim.Native.Nat.{◌≤◌, ◌+◌, ◌-◌}
+-- What was passed and what is left are all the days.
+use Prim.Native.Nat.{◌+◌, ◌-◌}
 use mathlib.Core.Path.{◌≡◌}
 use Rattle.supplement.specs.Code.Read.{day_count}
 use Rattle.supplement.proofs.day_count.Given as goal
 
 abbrev pub invariant-loop-i : goal.invariant-loop-i
-invariant-loop-i l = (3 ≤ l.i) × (l.i ≤ 8) × (l.i - 3 + day_count (8 - l.i) l.i l.s ≡ day_count 5 3 l.s)
-
-abbrev pub decreases-loop-i : goal.decreases-loop-i
-decreases-loop-i l = 8 - l.i
+invariant-loop-i l = l.i - 3 + day_count (8 - l.i) l.i l.s ≡ day_count 5 3 l.s

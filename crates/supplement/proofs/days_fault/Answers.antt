@@ -1,11 +1,11 @@
 -- The masks up to the first 0 are the cells of the days.
--- Assumes nothing.
-use Prim.Native.Nat.{◌≤◌, ◌-◌}
-use mathlib.Core.Path.{sym, ◌∙◌}
+use mathlib.Core.Path.{◌∙◌, sym, ap}
+use Prim.Native.Nat.{ℕ, ◌-◌, ◌≤◌}
 use native.Mathlib.Omega.{arith}
 use lib.ListN.{length, take, replicate}
-use lib.Seq.{length-take-le}
+use Rattle.cells.specs.Test.{passes}
 use Rattle.cells.specs.Code.Mask.{scan}
+use lib.Seq.{length-take-le}
 use Rattle.supplement.proofs.Rows.{days, counted_most}
 use Rattle.supplement.proofs.days_fault.Goals as goal
 
@@ -19,4 +19,5 @@ slice_bounds-first_fault-end c =
 
 pub returns : goal.returns
 returns c =
-    c.first_fault.ensures ∙ (λ i. scan (take (c.day_count-n.ensures i) (replicate 6 0xFFFF_FFFE)) 1 c.args.last c.args.s.now (length c.args.s.now - 2) 0 2) ∙ (days c.args.s.now (λ p. (c.shared_slice_known-1.given p).fits) c.requires c.args.last)
+    let s = c.args.s.now in
+    c.first_fault.ensures ∙ ap passes (ap (λ (k : ℕ). scan (take k (replicate 6 0xFFFF_FFFE)) 1 c.args.last s (length s - 2) 0 2) c.day_count-n.ensures ∙ days s c.fits-s c.told-s c.args.last)

@@ -1,18 +1,13 @@
 -- What the parts of the reader answer.
 -- Assumes nothing.
-use Rattle.std.specs.Prelude.{ℕ, zero, suc, ◌+◌, ◌-◌, ◌*◌, ◌≡◌, Bool, cond, List, eqb, get_or}
+use Rattle.std.specs.Prelude.{ℕ, zero, suc, ◌+◌, ◌*◌, cond, List, eqb, get_or, Err, Ok, Result}
 use Rattle.cells.specs.Text.{among, digit}
-use Rattle.cells.specs.Test.{fault, first}
-use Rattle.cells.specs.Cells.{cells}
+use Rattle.cells.specs.Test.{Answer, took, refused}
 use Rattle.cells.specs.declared.Fault.{Fault}
-use Rattle.supplement.specs.Amount.{figures, Seen, nothing, lone, whole, point, decimals, end, columns, figures_of, decimals_of, places_of}
+use Rattle.supplement.specs.Amount.{figures, Seen, nothing, lone, whole, point, decimals, end, figures_of, decimals_of, places_of}
 use Rattle.supplement.specs.declared.Amount.{Amount}
 use Rattle.supplement.specs.declared.Seen
 use Rattle.supplement.specs.declared.Seen.TheVariants.{Nothing, Lone, Whole, Point, Decimals, End}
-
--- a week that is empty, or is not
-unfoldable pub rule_of_week : Bool → Fault
-rule_of_week empty = cond empty (fault 8 2) (fault 0 0)
 
 -- how many of the k characters from offset i on stand before the first 0
 unfoldable pub day_count : ℕ → ℕ → List ℕ → ℕ
@@ -50,8 +45,11 @@ places_from point k i s = decimals_of k i s
 places_from decimals k i s = decimals_of k i s
 places_from end k i s = 0
 
--- what the columns from offset i on read as, after what has been seen, the number n and p places
-pub record Reads (s : List ℕ) (i : ℕ) (seen : Seen) (n p : ℕ) (r : Amount) : Type 0 where
-  pub fault : r.fault ≡ first (cells (8 - i) i (columns seen (8 - i) i s) s)
-  pub figures : r.fault.number ≡ 0 → r.figures ≡ figures_of n (8 - i) i s
-  pub places : r.fault.number ≡ 0 → r.places ≡ p + places_from seen (8 - i) i s
+-- what the columns of an amount read as
+abbrev pub amount_of : List ℕ → Amount
+amount_of s = record { figures = figures_of 0 6 2 s; places = places_of 6 2 s }
+
+-- document 01's number and values of an amount's answer
+abbrev pub said_amount : Result Amount Fault → Answer Amount
+said_amount (Ok a) = took a
+said_amount (Err f) = refused f.number f.place

@@ -1,12 +1,17 @@
--- The loop's invariant: the digit that is asked for stays the same; the measure is the places left.
--- Assumes nothing.
-use mathlib.Core.Path.{◌∙◌}
-use borrow.Author.Rules.{rules}
+-- The digit that is asked for stays the same.
+use Prim.Native.Nat.{◌-◌, ◌+◌}
+use mathlib.Core.Path.{◌≡◌, ◌∙◌}
+use native.Mathlib.Omega.{arith}
 use Rattle.supplement_writer.proofs.Numbers.{figure_more, figure_last}
 use Rattle.supplement_writer.proofs.figure_at.Goals as goal
 
 pub loop-k-preserved : goal.loop-k-preserved
-loop-k-preserved c = figure_more c.loop-k.m c.loop-k.k (search rules) ∙ c.loop-k.invariant
+loop-k-preserved c =
+    let l = c.loop-k in
+    let e : c.args.back - (l._k + 1) ≡ c.args.back - l._k - 1 = omega arith in
+    rw e (figure_more l.m (c.args.back - l._k) (omega arith) ∙ l.invariant)
 
 pub returns : goal.returns
-returns c = figure_last c.loop-k.m c.loop-k.k (search rules) ∙ c.loop-k.invariant
+returns c =
+    let l = c.loop-k in
+    figure_last l.m (c.args.back - l._k) (omega arith) ∙ l.invariant

@@ -1,20 +1,19 @@
--- The characters written are read back and compared: `written` says that this answer is the right one.
--- Assumes nothing.
-use mathlib.Core.Path.{◌≡◌, ◌∙◌, sym, subst}
+-- What is written is read back and compared, by `Writing`.
+use mathlib.Core.Path.{◌≡◌, ◌∙◌, ap}
+use mathlib.Core.Bool.{true}
 use Rattle.supplement.specs.Supplement.{read_supplement}
-use Rattle.supplement_writer.specs.Code.Write.{answer}
-use Rattle.supplement_writer.specs.Print.{raw, agrees}
-use Rattle.supplement_writer.specs.Writes.{WritesSupplement}
-use Rattle.supplement_writer.specs.declared.Written.{Written}
-use Rattle.supplement_writer.proofs.Writing.{written}
+use Rattle.cells.proofs.Same.{itself}
+use Rattle.supplement_writer.proofs.Writing.{unwritten}
 use Rattle.supplement_writer.proofs.write.Goals as goal
 
-pub returns : goal.returns
-returns c =
-    let x = c.args.x in
-    let e : answer (agrees (read_supplement (raw x)) x) (raw x) ≡ c.answer.result =
-    let r = c.raw-code.ensures in
-    let a = c.agrees-ok.ensures ∙ (λ j. agrees ((c.read-r.ensures ∙ (λ k. read_supplement (r k))) j) x) in
-    sym (c.answer.ensures ∙ (λ j. answer (a j) (r j)))
-    in
-    subst (λ (w : Written). WritesSupplement x w) e (written x)
+pub returns-in_default : goal.returns-in_default
+returns-in_default c =
+    unwritten c.args.x c.read.result (c.read.ensures ∙ ap read_supplement c.raw-code.ensures)
+    (λ e. let q : c.in-Ok.y ≡ c.args.x = cc (c.in-Ok.is, e) in
+    let k : c.eq.result ≡ true = c.eq.ensures ∙ rw q (simp itself) in
+    cc (k, c.if-eq.false))
+
+pub returns-in_default-2 : goal.returns-in_default-2
+returns-in_default-2 c =
+    unwritten c.args.x c.read.result (c.read.ensures ∙ ap read_supplement c.raw-code.ensures)
+    (λ e. cc (c.in_default.is, e))

@@ -1,17 +1,22 @@
--- The three faults, in order, by `Faults.event`.
-use mathlib.Core.Path.{refl, ◌∙◌}
-use mathlib.Core.List.{[], ◌∷◌}
-use Rattle.cells.specs.Test.{test, first}
-use Rattle.cells.proofs.Bridge.{stops, goes}
-use native.Mathlib.Omega.{arith}
+-- The three tests, in order, by `Faults.event`.
+use mathlib.Core.Path.{◌∙◌, sym}
+use borrow.Author.Rules.{rules}
+use Rattle.cells.proofs.Bridge.{stops, goes, tested}
 use Rattle.usage.proofs.Faults.{event}
 use Rattle.usage.proofs.event_fault.Goals as goal
 
-pub returns-then-f-ne0 : goal.returns-then-f-ne0
-returns-then-f-ne0 c = stops _ (c.test-f.ensures ∙ (λ i. first (test 5 4 (c.among.ensures i) ∷ []))) c.if-f-ne0.true (event c.args.s.now c.requires (λ p. omega (arith, c.shared_slice_known-1.given p)))
+pub returns-in_err-test : goal.returns-in_err-test
+returns-in_err-test c =
+    let f = stops _ (sym (tested 5 4 c.test.ensures c.among.ensures) ∙ c.in_err-test.was) (event c.args.s.now c.told-s c.fits-s) in
+    search (rules, f)
 
-pub returns-then-g-ne0 : goal.returns-then-g-ne0
-returns-then-g-ne0 c = goes (c.test-f.ensures ∙ (λ i. first (test 5 4 (c.among.ensures i) ∷ []))) c.if-f-ne0.false (stops _ (c.test-g.ensures ∙ (λ i. first (test 8 5 (c.in_table.ensures i) ∷ []))) c.if-g-ne0.true refl) (event c.args.s.now c.requires (λ p. omega (arith, c.shared_slice_known-1.given p)))
+pub returns-in_err-test-2 : goal.returns-in_err-test-2
+returns-in_err-test-2 c =
+    let zero = goes (sym (tested 5 4 c.test.ensures c.among.ensures) ∙ c.in_ok-test.was) (event c.args.s.now c.told-s c.fits-s) in
+    let f = stops _ (sym (tested 8 5 c.test-2.ensures c.in_table.ensures) ∙ c.in_err-test-2.was) zero in
+    search (rules, f)
 
 pub returns : goal.returns
-returns c = goes (c.test-f.ensures ∙ (λ i. first (test 5 4 (c.among.ensures i) ∷ []))) c.if-f-ne0.false (goes (c.test-g.ensures ∙ (λ i. first (test 8 5 (c.in_table.ensures i) ∷ []))) c.if-g-ne0.false c.first_fault.ensures refl) (event c.args.s.now c.requires (λ p. omega (arith, c.shared_slice_known-1.given p)))
+returns c =
+    let zero = goes (sym (tested 5 4 c.test.ensures c.among.ensures) ∙ c.in_ok-test.was) (event c.args.s.now c.told-s c.fits-s) in
+    c.first_fault.ensures ∙ sym (goes (sym (tested 8 5 c.test-2.ensures c.in_table.ensures) ∙ c.in_ok-test-2.was) zero)

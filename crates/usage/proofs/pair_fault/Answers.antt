@@ -1,16 +1,22 @@
 -- The pair, then 0s, by `Faults.pair`.
-use mathlib.Core.Path.{◌∙◌}
-use mathlib.Core.List.{[], ◌∷◌}
-use Rattle.cells.specs.Test.{test, first}
+use Prim.Native.Nat.{ℕ}
+use mathlib.Core.Path.{◌∙◌, sym, ap}
+use borrow.Author.Rules.{rules}
 use Rattle.cells.specs.Cells.{char}
 use Rattle.cells.specs.Code.Mask.{value, has}
-use Rattle.cells.proofs.Bridge.{stops, goes}
-use native.Mathlib.Omega.{arith}
+use Rattle.cells.proofs.Bridge.{stops, goes, tested}
 use Rattle.usage.proofs.Faults.{pair}
 use Rattle.usage.proofs.pair_fault.Goals as goal
 
-pub returns-then-f-ne0 : goal.returns-then-f-ne0
-returns-then-f-ne0 c = stops _ (c.test-f.ensures ∙ (λ i. first (test 8 4 ((c.among.ensures ∙ (λ j. has (c.pairs.ensures j) (value (char c.args.s.now 5)))) i) ∷ []))) c.if-f-ne0.true (pair c.args.s.now c.requires (λ p. omega (arith, c.shared_slice_known-1.given p)))
+pub returns-in_err-test : goal.returns-in_err-test
+returns-in_err-test c =
+    let s = c.args.s.now in
+    let second = c.among.ensures ∙ ap (λ (m : ℕ). has m (value (char s 5))) c.pairs.ensures in
+    let f = stops _ (sym (tested 8 4 c.test.ensures second) ∙ c.in_err-test.was) (pair s c.told-s c.fits-s) in
+    search (rules, f)
 
 pub returns : goal.returns
-returns c = goes (c.test-f.ensures ∙ (λ i. first (test 8 4 ((c.among.ensures ∙ (λ j. has (c.pairs.ensures j) (value (char c.args.s.now 5)))) i) ∷ []))) c.if-f-ne0.false c.first_fault.ensures (pair c.args.s.now c.requires (λ p. omega (arith, c.shared_slice_known-1.given p)))
+returns c =
+    let s = c.args.s.now in
+    let second = c.among.ensures ∙ ap (λ (m : ℕ). has m (value (char s 5))) c.pairs.ensures in
+    c.first_fault.ensures ∙ sym (goes (sym (tested 8 4 c.test.ensures second) ∙ c.in_ok-test.was) (pair s c.told-s c.fits-s))

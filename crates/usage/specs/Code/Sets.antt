@@ -1,10 +1,12 @@
 -- The rows of characters, the sets that depend on another character, and table 8, as masks: bit v for the value v.
 -- `Rattle.usage.proofs.Masks` and `Rattle.usage.proofs.Table` say that they are what `Usage` says.
 -- Assumes nothing.
-use Rattle.std.specs.Prelude.{ℕ, Bool, cond, ◌&&◌, List, [], ◌∷◌, get_or}
+use Rattle.std.specs.Prelude.{ℕ, Bool, cond, ◌&&◌, List, [], ◌∷◌}
+use Rattle.std.specs.List.{list_any}
 use Prim.Native.String.{String}
 use Rattle.cells.specs.Text.{among}
 use Rattle.cells.specs.Code.Mask.{value, has}
+use Rattle.usage.specs.declared.Line.{Line}
 
 -- the row of kind 1, from the 4th character on
 abbrev pub meals : List ℕ
@@ -46,26 +48,32 @@ pairs c =
     cond (among "1" c) 0x800005
     (cond (among "2" c) 0b1001 (cond (among "3" c) 0b10000010001 (cond (among "4" c) 0b10000100001 (cond (among "6" c) 0b10000000001 0))))
 
--- how many lines table 8 has
-abbrev pub lines : ℕ
-lines = 14
+-- a line of table 8
+abbrev pub line : ℕ → ℕ → ℕ → Line
+line a b c = record { 0 = a; 1 = b; 2 = c }
 
--- table 8: what may stand 5th in each of its lines
-unfoldable pub fifth : List ℕ
-fifth =
-    0b10 ∷ 0b100 ∷ 0b10000 ∷ 0b100000 ∷ 0b1000000 ∷ 0b10000000 ∷ 0b100000000 ∷ 0b1000000000 ∷
-    0b100000000000 ∷ 0x100000000 ∷ 0b1000 ∷ 0b100000 ∷ 0b10000000 ∷ 0b10000000000 ∷ []
+-- table 8 by lines: what may stand 5th, 6th and 7th
+unfoldable pub lines : List Line
+lines =
+    line 0b10 0b11111110 1 ∷
+    line 0b100 0b111110 1 ∷
+    line 0b10000 0b1111111110 1 ∷
+    line 0b100000 0b1000 1 ∷
+    line 0b1000000 0b11111110 1 ∷
+    line 0b10000000 0b100 1 ∷
+    line 0b100000000 0b110 1 ∷
+    line 0b1000000000 0b110 1 ∷
+    line 0b100000000000 0b11111110 1 ∷
+    line 0x100000000 0b110 1 ∷
+    line 0b1000 0b110 0b11110101 ∷
+    line 0b100000 0b110 0b11110101 ∷
+    line 0b10000000 0b10 0b11110101 ∷
+    line 0b10000000000 0b1111111110 0b11110101 ∷ []
 
--- what may stand 6th
-unfoldable pub sixth : List ℕ
-sixth =
-    0b11111110 ∷ 0b111110 ∷ 0b1111111110 ∷ 0b1000 ∷ 0b11111110 ∷ 0b100 ∷ 0b110 ∷ 0b110 ∷
-    0b11111110 ∷ 0b110 ∷ 0b110 ∷ 0b110 ∷ 0b10 ∷ 0b1111111110 ∷ []
+-- three characters stand in a row of a line
+abbrev pub in_line : Line → ℕ → ℕ → ℕ → Bool
+in_line l a b c = has l.0 (value a) && (has l.1 (value b) && has l.2 (value c))
 
--- what may stand 7th
-unfoldable pub condition : List ℕ
-condition = 1 ∷ 1 ∷ 1 ∷ 1 ∷ 1 ∷ 1 ∷ 1 ∷ 1 ∷ 1 ∷ 1 ∷ 0b11110101 ∷ 0b11110101 ∷ 0b11110101 ∷ 0b11110101 ∷ []
-
--- three characters stand in a row of the kth line
-abbrev pub in_row : ℕ → ℕ → ℕ → ℕ → Bool
-in_row k a b c = has (get_or fifth k 0) (value a) && (has (get_or sixth k 0) (value b) && has (get_or condition k 0) (value c))
+-- three characters stand in a row of any line
+abbrev pub in_lines : ℕ → ℕ → ℕ → Bool
+in_lines a b c = list_any (λ l. in_line l a b c) lines

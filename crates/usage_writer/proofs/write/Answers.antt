@@ -1,21 +1,25 @@
--- `usage_writer::write` meets its contract: what is written is read back and compared, by `Writing.written`.
-use mathlib.Core.Path.{◌≡◌, ◌∙◌, sym, subst}
-use Rattle.usage_writer.specs.Code.Write.{agrees, answer}
-use Rattle.usage_writer.specs.Print.{raw}
-use Rattle.usage.specs.Usage.{said, read_usage}
-use Rattle.usage_writer.specs.Writes.{WritesUsage}
-use Rattle.usage_writer.specs.declared.Written.{Written}
-use Rattle.usage_writer.proofs.Writing.{written}
+-- What is written is read back and compared, by `Writing`.
+use mathlib.Core.Path.{◌≡◌, ◌∙◌, ap}
+use mathlib.Core.Bool.{true}
+use Rattle.usage.specs.Usage.{read_usage}
+use borrow.Author.Rules.{rules}
+use Rattle.cells.proofs.Same.{itself}
+use Rattle.usage_writer.proofs.Writing.{written, unwritten}
 use Rattle.usage_writer.proofs.write.Goals as goal
 
-pub returns : goal.returns
-returns c =
-    let i = c.args.i in
-    let u = c.read-u.result in
-    let r : said u ≡ read_usage (raw i) =
-    c.read-u.ensures ∙ (λ j. read_usage (c.raw-code.ensures j))
-    in
-    let e : answer (agrees u i) (raw i) ≡ c.answer.result =
-    sym (c.answer.ensures ∙ (λ j. answer (c.agrees-ok.ensures j) (c.raw-code.ensures j)))
-    in
-    subst (λ (w : Written). WritesUsage i w) e (written i u r)
+pub returns-in_default : goal.returns-in_default
+returns-in_default c =
+    unwritten c.args.i c.read.result (c.read.ensures ∙ ap read_usage c.raw-code.ensures)
+    (λ e. let q : c.in-Ok.j ≡ c.args.i = cc (c.in-Ok.is, e) in
+    let k : c.eq.result ≡ true = c.eq.ensures ∙ rw q (simp itself) in
+    cc (k, c.if-eq.false))
+
+pub returns-in_default-2 : goal.returns-in_default-2
+returns-in_default-2 c =
+    unwritten c.args.i c.read.result (c.read.ensures ∙ ap read_usage c.raw-code.ensures)
+    (λ e. cc (c.in_default.is, e))
+
+pub returns-in-Ok : goal.returns-in-Ok
+returns-in-Ok c =
+    let q : c.in-Ok.j ≡ c.args.i = search rules in
+    rw c.raw-code.ensures (written c.args.i c.read.result (c.read.ensures ∙ ap read_usage c.raw-code.ensures) c.in-Ok.j c.in-Ok.is q)

@@ -1,2 +1,0 @@
--- The definitions in the code's shape, which the contracts of the private functions cite. No public contract does.
-pub mod Write
