@@ -5,5 +5,6 @@ pub mod Scan
 pub mod Back
 pub mod Bridge
 pub mod Put
+pub mod Passed
 pub mod Same
 pub mod Writing

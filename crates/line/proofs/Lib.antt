@@ -4,4 +4,3 @@ pub mod Pairs
 pub mod Fields
 pub mod Laws
 pub mod Walk
-pub mod Passed

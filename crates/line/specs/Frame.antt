@@ -66,7 +66,3 @@ frame_from state k (b ∷ s) = cond (eqb (next state b) wrong) (fault 21 k) (fra
 -- The fault of a file's frame: number 0 where it is well framed. `Rattle.line.proofs.Laws` says of both that they are what document 01 says.
 unfoldable pub frame_fault : List ℕ → Fault
 frame_fault s = frame_from 0 0 s
-
--- The answer that a fault is: none where its number is 0.
-abbrev pub passes : Fault → Result ⊤ Fault
-passes f = cond (eqb f.number 0) (Ok tt) (Err f)

@@ -3,7 +3,8 @@
 
 ghost use Rattle.std.specs.Prelude.{◌≡◌, true};
 ghost use Rattle.cells.specs.Test.{fault};
-ghost use Rattle.line.specs.Frame.{plain as plain_of, in_line, next as next_of, frame_fault, passes};
+ghost use Rattle.line.specs.Frame.{plain as plain_of, in_line, next as next_of, frame_fault};
+ghost use Rattle.cells.specs.Test.{passes};
 ghost use Rattle.line.specs.Code.Pairs.{may_follow};
 ghost use Rattle.line.specs.Code.States.{number, reached};
 ghost use Rattle.line.specs.Fields.{ends as ends_of, field_end, fields_at, line_ends, nth};

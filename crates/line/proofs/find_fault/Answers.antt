@@ -2,7 +2,8 @@
 -- Assumes nothing.
 use Rattle.std.proofs.Common.{◌≡◌, ℕ, refl, ◌∙◌, sym, ap, arith, [], length}
 use Rattle.cells.specs.Test.{fault}
-use Rattle.line.specs.Frame.{frame_from, frame_fault, passes, wrong}
+use Rattle.cells.specs.Test.{passes}
+use Rattle.line.specs.Frame.{frame_from, frame_fault, wrong}
 use Rattle.line.specs.declared.State.{State}
 use Rattle.line.specs.declared.State.TheVariants.{Line, Return, Lines, All}
 use Rattle.line.specs.Code.States.{number}

@@ -4,7 +4,7 @@ use borrow.Author.Tests.{eq-eqb, ne_eqb, le-leb, lt-leb}
 use Rattle.cells.specs.Test.{first}
 use Rattle.cells.specs.declared.Fault.{Fault}
 use Rattle.line.specs.Frame.{frame_fault}
-use Rattle.line.proofs.Passed.{refused_by, passed_by}
+use Rattle.cells.proofs.Passed.{refused_by, passed_by}
 use Rattle.reader.specs.Open.{file_fault}
 use Rattle.reader.specs.Reader.{opened, open_file}
 use Rattle.reader.proofs.open.Goals as goal

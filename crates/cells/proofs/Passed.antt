@@ -5,7 +5,7 @@ use Rattle.std.proofs.Common.{sym, ap, ◌∙◌, arith}
 use borrow.Author.Tests.{eqb-true, eqb-false}
 use Rattle.cells.proofs.Split.{split}
 use Rattle.cells.specs.declared.Fault.{Fault}
-use Rattle.line.specs.Frame.{passes}
+use Rattle.cells.specs.Test.{passes}
 
 -- refused: it is that fault, and there is one
 pub refused_by : (f e : Fault) (r : Result ⊤ Fault) → r ≡ passes f → r ≡ Err e → (f ≡ e) × (f.number ≡ 0 → ⊥)
