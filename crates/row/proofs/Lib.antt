@@ -1,5 +1,4 @@
 pub mod Parted
-pub mod Nine
 pub mod Compared
 pub mod Noted
 pub mod Bridge
