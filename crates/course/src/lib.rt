@@ -73,10 +73,10 @@ fn in_week(w: Week, weekday: u8) -> bool
         w.friday,
         w.saturday,
     ];
-    if weekday < 7 {
-        return meant[weekday as usize] == 1;
+    match meant.get(wide(weekday)) {
+        Some(m) => *m == 1,
+        None => false,
     }
-    false
 }
 
 // Is a day in the twelve months that begin with the issue month?
@@ -132,12 +132,10 @@ fn fill_days(days: &mut [u8; 366], c: Course, marks: &[bool; 416], start: Day, n
 {
     let mut t = start;
     let mut weekday = day::weekday(start);
-    let mut k: usize = 0;
-    while k < n {
+    for k in 0..n {
         days[k] = dose(c, marks, t, weekday, k);
         t = day::next(t);
         weekday = (weekday + 1) % 7;
-        k += 1;
     }
 }
 
@@ -191,13 +189,7 @@ fn valid(issue: Day, start: Day, n: u32) -> bool
 fn counted(rule: Rule) -> bool
     ensures { result ≡ counted_by rule }
 {
-    match rule {
-        Rule::Every => false,
-        Rule::Turns(_, _) => false,
-        Rule::Weekly(_) => false,
-        Rule::Dates => false,
-        Rule::Counted => true,
-    }
+    matches!(rule, Rule::Counted)
 }
 
 // The first refusal; 0 where there is none.

@@ -58,14 +58,11 @@ fn mark_days(marks: &mut [bool; 416], month: u8, days: Days)
     ensures { marks.new ≡ mark_days marks.old month (upto0 (days.d1 ∷ days.d2 ∷ days.d3 ∷ days.d4 ∷ days.d5 ∷ days.d6 ∷ [])) }
 {
     let six = [days.d1, days.d2, days.d3, days.d4, days.d5, days.d6];
-    let mut k: usize = 0;
-    while k < 6 {
-        let d = six[k];
+    for d in six {
         if d == 0 {
             return;
         }
         mark_day(marks, month, d);
-        k += 1;
     }
 }
 
@@ -92,10 +89,7 @@ fn joined(rule: Rule, x: Supplement) -> Rule
 {
     match rule {
         Rule::Every => rule_of(x),
-        Rule::Turns(_, _) => rule,
-        Rule::Weekly(_) => rule,
-        Rule::Dates => rule,
-        Rule::Counted => rule,
+        _ => rule,
     }
 }
 

@@ -25,10 +25,7 @@ pub const OWN: u8 = 2;
 pub fn limit(length: usize) -> usize
     ensures { result ≡ min length file_most }
 {
-    if length < FILE_MOST {
-        return length;
-    }
-    FILE_MOST
+    length.min(FILE_MOST)
 }
 
 // ---- how long a line is
@@ -37,19 +34,13 @@ pub fn limit(length: usize) -> usize
 fn digits(n: u16) -> usize
     ensures { result ≡ length (print_number n) }
 {
-    if n < 10 {
-        return 1;
+    match n {
+        0..=9 => 1,
+        10..=99 => 2,
+        100..=999 => 3,
+        1000..=9999 => 4,
+        _ => 5,
     }
-    if n < 100 {
-        return 2;
-    }
-    if n < 1000 {
-        return 3;
-    }
-    if n < 10000 {
-        return 4;
-    }
-    5
 }
 
 // How many bytes a text at a place has.
@@ -88,15 +79,13 @@ fn fits(
     ensures { result ≡ leb (length (line_of lent.now (laid kinds.now numbers.now from.now to.now own.now) count)) room }
 {
     let mut left = room;
-    let mut i: usize = 0;
-    while i < count {
+    for i in 0..count {
         let n = width(lent, own, kinds[i], numbers[i], from[i], to[i]);
         if left <= n {
             return false;
         }
         left -= n;
         left -= 1;
-        i += 1;
     }
     0 < left
 }
@@ -153,11 +142,9 @@ fn put_number(out: &mut [u8], at: usize, n: u16) -> usize
 {
     let end = at + digits(n);
     let mut left = n;
-    let mut k = end;
-    while at < k {
-        k -= 1;
-        out[k] = 48 + ((left % 10) as u8);
-        left = left / 10;
+    for k in (at..end).rev() {
+        out[k] = b'0' + (left % 10) as u8;
+        left /= 10;
     }
     end
 }
@@ -208,12 +195,10 @@ fn put_line(
     ensures { (out.new ≡ sets out.old at (line_of lent.now (laid kinds.now numbers.now from.now to.now own.now) count)) × (result ≡ at + length (line_of lent.now (laid kinds.now numbers.now from.now to.now own.now) count)) }
 {
     let mut end = at;
-    let mut i: usize = 0;
-    while i < count {
+    for i in 0..count {
         end = put_part(out, end, lent, own, kinds[i], numbers[i], from[i], to[i]);
         out[end] = separator(i, count);
         end += 1;
-        i += 1;
     }
     out[end] = b'\n';
     end + 1

@@ -21,40 +21,31 @@ pub const SUPPLEMENT: usize = 22;
 pub fn at(n: &[u64], i: usize) -> u64
     ensures { result ≡ get_or n.now i 0 }
 {
-    if i < n.len() {
-        return n[i];
+    match n.get(i) {
+        Some(v) => *v,
+        None => 0,
     }
-    0
 }
 
 // As a byte: 255 for all above it, which is in no field's range.
 fn byte(n: u64) -> u8
     ensures { result ≡ byte_of n }
 {
-    if n < 255 {
-        return n as u8;
-    }
-    255
+    u8::try_from(n).unwrap_or(u8::MAX)
 }
 
 // As sixteen bits, in the same way.
 fn half(n: u64) -> u16
     ensures { result ≡ half_of n }
 {
-    if n < 65535 {
-        return n as u16;
-    }
-    65535
+    u16::try_from(n).unwrap_or(u16::MAX)
 }
 
 // As thirty-two bits, in the same way.
 fn word(n: u64) -> u32
     ensures { result ≡ word_of n }
 {
-    if n < 4294967295 {
-        return n as u32;
-    }
-    4294967295
+    u32::try_from(n).unwrap_or(u32::MAX)
 }
 
 // The number at a place as a byte, as sixteen bits, as yes or no.
@@ -138,35 +129,35 @@ pub fn instruction(n: &[u64]) -> Instruction
 fn put_occasions(o: Occasions, n: &mut [u64; USAGE])
     ensures { n.new ≡ sets n.old 4 (occasions_numbers o) }
 {
-    n[4] = o.bedtime as u64;
-    n[5] = o.supper as u64;
-    n[6] = o.lunch as u64;
-    n[7] = o.breakfast as u64;
-    n[8] = o.waking as u64;
-    n[9] = o.hour as u64;
+    n[4] = u64::from(o.bedtime);
+    n[5] = u64::from(o.supper);
+    n[6] = u64::from(o.lunch);
+    n[7] = u64::from(o.breakfast);
+    n[8] = u64::from(o.waking);
+    n[9] = u64::from(o.hour);
 }
 
 fn put_event(e: Event, n: &mut [u64; USAGE])
     ensures { n.new ≡ sets n.old 11 (event_numbers e) }
 {
-    n[11] = e.group as u64;
-    n[12] = e.event as u64;
-    n[13] = e.condition as u64;
-    n[14] = e.interval as u64;
-    n[15] = e.limit as u64;
+    n[11] = u64::from(e.group);
+    n[12] = u64::from(e.event);
+    n[13] = u64::from(e.condition);
+    n[14] = u64::from(e.interval);
+    n[15] = u64::from(e.limit);
 }
 
 fn put_hours(h: Hours, n: &mut [u64; USAGE])
     ensures { n.new ≡ sets n.old 17 (hours_numbers h) }
 {
-    n[17] = h.h1 as u64;
-    n[18] = h.h2 as u64;
-    n[19] = h.h3 as u64;
-    n[20] = h.h4 as u64;
-    n[21] = h.h5 as u64;
-    n[22] = h.h6 as u64;
-    n[23] = h.h7 as u64;
-    n[24] = h.h8 as u64;
+    n[17] = u64::from(h.h1);
+    n[18] = u64::from(h.h2);
+    n[19] = u64::from(h.h3);
+    n[20] = u64::from(h.h4);
+    n[21] = u64::from(h.h5);
+    n[22] = u64::from(h.h6);
+    n[23] = u64::from(h.h7);
+    n[24] = u64::from(h.h8);
 }
 
 // Its numbers, in the caller's array.
@@ -174,12 +165,12 @@ pub fn put_usage(i: Instruction, n: &mut [u64; USAGE])
     ensures { n.new ≡ usage_numbers i }
 {
     *n = [0; USAGE];
-    n[0] = i.class as u64;
-    n[1] = i.detail as u64;
-    n[2] = i.kind as u64;
-    n[3] = i.times as u64;
-    n[10] = i.start as u64;
-    n[16] = i.about as u64;
+    n[0] = u64::from(i.class);
+    n[1] = u64::from(i.detail);
+    n[2] = u64::from(i.kind);
+    n[3] = u64::from(i.times);
+    n[10] = u64::from(i.start);
+    n[16] = u64::from(i.about);
     put_occasions(i.occasions, n);
     put_event(i.event, n);
     put_hours(i.hours, n);
@@ -234,24 +225,24 @@ pub fn supplement(n: &[u64]) -> Supplement
 fn put_week(w: Week, n: &mut [u64; SUPPLEMENT])
     ensures { n.new ≡ sets n.old 3 (week_numbers w) }
 {
-    n[3] = w.sunday as u64;
-    n[4] = w.monday as u64;
-    n[5] = w.tuesday as u64;
-    n[6] = w.wednesday as u64;
-    n[7] = w.thursday as u64;
-    n[8] = w.friday as u64;
-    n[9] = w.saturday as u64;
+    n[3] = u64::from(w.sunday);
+    n[4] = u64::from(w.monday);
+    n[5] = u64::from(w.tuesday);
+    n[6] = u64::from(w.wednesday);
+    n[7] = u64::from(w.thursday);
+    n[8] = u64::from(w.friday);
+    n[9] = u64::from(w.saturday);
 }
 
 fn put_days(d: Days, n: &mut [u64; SUPPLEMENT])
     ensures { n.new ≡ sets n.old 11 (days_numbers d) }
 {
-    n[11] = d.d1 as u64;
-    n[12] = d.d2 as u64;
-    n[13] = d.d3 as u64;
-    n[14] = d.d4 as u64;
-    n[15] = d.d5 as u64;
-    n[16] = d.d6 as u64;
+    n[11] = u64::from(d.d1);
+    n[12] = u64::from(d.d2);
+    n[13] = u64::from(d.d3);
+    n[14] = u64::from(d.d4);
+    n[15] = u64::from(d.d5);
+    n[16] = u64::from(d.d6);
 }
 
 // Its numbers, in the caller's array.
@@ -259,15 +250,15 @@ pub fn put_supplement(x: Supplement, n: &mut [u64; SUPPLEMENT])
     ensures { n.new ≡ supplement_numbers x }
 {
     *n = [0; SUPPLEMENT];
-    n[0] = x.letter as u64;
-    n[1] = x.on as u64;
-    n[2] = x.off as u64;
-    n[10] = x.month as u64;
-    n[17] = x.period as u64;
-    n[18] = x.count as u64;
-    n[19] = x.order as u64;
-    n[20] = x.figures as u64;
-    n[21] = x.places as u64;
+    n[0] = u64::from(x.letter);
+    n[1] = u64::from(x.on);
+    n[2] = u64::from(x.off);
+    n[10] = u64::from(x.month);
+    n[17] = u64::from(x.period);
+    n[18] = u64::from(x.count);
+    n[19] = u64::from(x.order);
+    n[20] = u64::from(x.figures);
+    n[21] = u64::from(x.places);
     put_week(x.week, n);
     put_days(x.days, n);
 }

@@ -45,6 +45,7 @@ fn width(n: u64) -> usize
 {
     let mut w = 1;
     let mut rest = n / 10;
+    // Kept: how many turns there are is what is asked.
     while 0 < rest {
         w += 1;
         rest = rest / 10;
@@ -67,11 +68,9 @@ fn whole(n: u64) -> Piece
     let w = width(n);
     let mut bytes = [0; 24];
     let mut left = n;
-    let mut at = w;
-    while 0 < at {
-        at -= 1;
+    for at in (0..w).rev() {
         bytes[at] = figure(left % 10);
-        left = left / 10;
+        left /= 10;
     }
     Piece { length: w, bytes }
 }
@@ -87,6 +86,7 @@ fn pointed(p: Piece, part: u64) -> Piece
     at += 1;
     let mut left = part;
     let mut unit = 10000;
+    // Kept: the last digit that is not 0 ends it, which no count tells before.
     while 0 < left {
         bytes[at] = figure(left / unit);
         at += 1;

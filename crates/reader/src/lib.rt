@@ -32,14 +32,7 @@ pub struct Step {
 fn is_version(s: &[u8]) -> bool
     ensures { result ≡ version_line s.now }
 {
-    if s.len() < 7 {
-        return false;
-    }
-    (s[0] == b'J')
-        & ((s[1] == b'A')
-            & ((s[2] == b'H')
-                & ((s[3] == b'I')
-                    & ((s[4] == b'S') & ((s[5] == b'5') & ((s[6] == b'\r') & true))))))
+    s.starts_with(b"JAHIS5\r")
 }
 
 fn opened(number: u16, at: usize) -> State

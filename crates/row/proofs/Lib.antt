@@ -1,5 +1,5 @@
 pub mod Parted
-pub mod Nine
+pub mod Compared
 pub mod Noted
 pub mod Bridge
 pub mod Same

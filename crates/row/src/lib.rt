@@ -201,26 +201,17 @@ fn name_need(kind: u8, unlisted: bool) -> u8
 fn mark(f: &[u8]) -> u8
     ensures { result ≡ mark_of f.now }
 {
-    if f.len() == 1 {
-        return f[0];
+    match f {
+        [c] => *c,
+        _ => 0,
     }
-    0
 }
 
 // The code 777770000, which names no listed drug.
 fn is_unlisted(f: &[u8]) -> bool
     ensures { result ≡ eqs f.now (bytes "777770000") }
 {
-    if f.len() != 9 {
-        return false;
-    }
-    (f[0] == b'7')
-        & ((f[1] == b'7')
-            & ((f[2] == b'7')
-                & ((f[3] == b'7')
-                    & ((f[4] == b'7')
-                        & ((f[5] == b'0')
-                            & ((f[6] == b'0') & ((f[7] == b'0') & ((f[8] == b'0') & true))))))))
+    f == b"777770000".as_slice()
 }
 
 // ---- the fields of a line
@@ -232,13 +223,11 @@ fn part_line(s: &[u8], at: usize, ends: &mut [usize; WIDE]) -> usize
     ensures { (result ≡ cut_count 0 (fields_at s.now at)) × (ends.new ≡ cut_ends 0 at (fields_at s.now at) ends.old) }
 {
     let mut from = at;
-    let mut k: usize = 0;
-    while k < WIDE {
+    for k in 0..WIDE {
         let end = line::field_end(s, from);
         ends[k] = end;
-        k += 1;
         if line::line_ends(s, end) {
-            return k;
+            return k + 1;
         }
         from = end + 1;
     }
@@ -423,8 +412,7 @@ fn read_typed(
     ensures { (result ≡ row_from (context b) 0 at t.each (fields_at s.now at)) × Walked result t.each (fields_at s.now at) numbers.old amounts.old numbers.new amounts.new }
 {
     let mut from = at;
-    let mut i: usize = 0;
-    while i < t.count {
+    for i in 0..t.count {
         let to = ends[i];
         let f = field::read(b, t.each[i], &s[from..to]);
         if f.fault.number != 0 {
@@ -433,7 +421,6 @@ fn read_typed(
         numbers[i] = f.n;
         amounts[i] = f.amount;
         from = to + 1;
-        i += 1;
     }
     fine(from)
 }

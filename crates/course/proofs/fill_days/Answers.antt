@@ -11,9 +11,6 @@ use Rattle.course.specs.Kept.{dose_on}
 use Rattle.course.proofs.Filling.{fill_next, fill_end, after_more, more_weekday}
 use Rattle.course.proofs.fill_days.Goals as goal
 
-pub weekday-weekday-requires : goal.weekday-weekday-requires
-weekday-weekday-requires c = tt
-
 pub loop-k-init : goal.loop-k-init
 unfolding after
 loop-k-init c = (omega arith, refl, c.weekday-weekday.ensures, rw (sub-zero c.args.n))
@@ -23,23 +20,11 @@ dose-requires c =
     let l = c.loop-k in
     (rw l.invariant.1 (after_exists l.k c.args.start c.requires.2), rw l.invariant.1 l.invariant.2)
 
-pub bounds-days-k : goal.bounds-days-k
-bounds-days-k c = omega arith
-
-pub next-t-requires : goal.next-t-requires
-next-t-requires c = tt
-
 pub overflow_add-weekday : goal.overflow_add-weekday
 overflow_add-weekday c =
     let l = c.loop-k in
     let s = c.args.start in
     record { fits = omega (arith, l.invariant.2, weekday_7 (after l.k s)) }
-
-pub overflow_add-k : goal.overflow_add-k
-overflow_add-k c = omega arith
-
-pub loop-k-smaller : goal.loop-k-smaller
-loop-k-smaller c = omega arith
 
 pub loop-k-preserved : goal.loop-k-preserved
 loop-k-preserved c =

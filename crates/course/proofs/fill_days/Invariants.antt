@@ -10,6 +10,3 @@ use Rattle.course.proofs.fill_days.Given as goal
 abbrev pub invariant-loop-k : goal.invariant-loop-k
 invariant-loop-k l = (l.k ≤ l.n) × (l.t ≡ after l.k l.initial.t) × (l.weekday ≡ weekday_of (after l.k l.initial.t)) ×
     (sets l.days l.k (doses_by l.c l.marks l.initial.t l.k (l.n - l.k)) ≡ sets l.initial.days 0 (doses_by l.c l.marks l.initial.t 0 l.n))
-
-abbrev pub decreases-loop-k : goal.decreases-loop-k
-decreases-loop-k l = l.n - l.k

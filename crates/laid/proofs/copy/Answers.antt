@@ -1,5 +1,5 @@
 -- The text is put in one piece.
-use Rattle.std.proofs.Common.{◌≡◌, List, ℕ, ap, refl, ◌∙◌, arith}
+use Rattle.std.proofs.Common.{List, ℕ, ap, refl, ◌∙◌, arith}
 use Rattle.std.proofs.lemmas.List.Edits.{sets}
 use Rattle.cells.proofs.Put.{part_put}
 use Rattle.laid.proofs.copy.Goals as goal

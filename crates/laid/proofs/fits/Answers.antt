@@ -10,27 +10,6 @@ use Rattle.laid.proofs.fits.Goals as goal
 pub loop-i-init : goal.loop-i-init
 loop-i-init c = (omega arith, rw sub-zero)
 
-pub bounds-kinds-i : goal.bounds-kinds-i
-bounds-kinds-i c = omega arith
-
-pub offset_bounds-numbers-i : goal.offset_bounds-numbers-i
-offset_bounds-numbers-i c = omega arith
-
-pub bounds-numbers-i : goal.bounds-numbers-i
-bounds-numbers-i c = omega arith
-
-pub offset_bounds-from-i : goal.offset_bounds-from-i
-offset_bounds-from-i c = omega arith
-
-pub bounds-from-i : goal.bounds-from-i
-bounds-from-i c = omega arith
-
-pub offset_bounds-to-i : goal.offset_bounds-to-i
-offset_bounds-to-i c = omega arith
-
-pub bounds-to-i : goal.bounds-to-i
-bounds-to-i c = omega arith
-
 pub returns-then-left-n : goal.returns-then-left-n
 unfolding fits_from
 returns-then-left-n c =
@@ -39,18 +18,6 @@ returns-then-left-n c =
     let l = c.loop-i in
     let w = c.width-n in
     sym (no_room a.lent.now p a.count l.i (omega arith) l.left (omega (arith, w.ensures))) ∙ l.invariant.1
-
-pub overflow_sub-left : goal.overflow_sub-left
-overflow_sub-left c = omega arith
-
-pub overflow_sub-left-in-loop-i : goal.overflow_sub-left-in-loop-i
-overflow_sub-left-in-loop-i c = omega arith
-
-pub overflow_add-i : goal.overflow_add-i
-overflow_add-i c = omega arith
-
-pub loop-i-smaller : goal.loop-i-smaller
-loop-i-smaller c = omega arith
 
 pub loop-i-preserved : goal.loop-i-preserved
 loop-i-preserved c =

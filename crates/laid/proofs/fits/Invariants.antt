@@ -8,6 +8,3 @@ use Rattle.laid.proofs.fits.Given as goal
 abbrev pub invariant-loop-i : goal.invariant-loop-i
 invariant-loop-i l =
     (l.i ≤ l.count) × (fits_from l.lent (laid l.kinds l.numbers l.from l.to l.own) (l.count - l.i) l.i l.left ≡ fits_from l.lent (laid l.kinds l.numbers l.from l.to l.own) l.count 0 l.room)
-
-abbrev pub decreases-loop-i : goal.decreases-loop-i
-decreases-loop-i l = l.count - l.i

@@ -13,36 +13,12 @@ use Rattle.laid.proofs.put_line.Goals as goal
 pub loop-i-init : goal.loop-i-init
 loop-i-init c = (omega arith, refl, rw sub-zero, rw sub-zero)
 
-pub bounds-kinds-i : goal.bounds-kinds-i
-bounds-kinds-i c = omega arith
-
-pub offset_bounds-numbers-i : goal.offset_bounds-numbers-i
-offset_bounds-numbers-i c = omega arith
-
-pub bounds-numbers-i : goal.bounds-numbers-i
-bounds-numbers-i c = omega arith
-
-pub offset_bounds-from-i : goal.offset_bounds-from-i
-offset_bounds-from-i c = omega arith
-
-pub bounds-from-i : goal.bounds-from-i
-bounds-from-i c = omega arith
-
-pub offset_bounds-to-i : goal.offset_bounds-to-i
-offset_bounds-to-i c = omega arith
-
-pub bounds-to-i : goal.bounds-to-i
-bounds-to-i c = omega arith
-
 pub put_part-end-requires : goal.put_part-end-requires
 put_part-end-requires c =
     let a = c.args in
     let p : Laid = laid a.kinds.now a.numbers.now a.from.now a.to.now a.own.now in
     let l = c.loop-i in
     omega (arith, c.requires.1, l.invariant.1, l.invariant.2, part_size a.lent.now p a.count l.i (omega arith))
-
-pub separator-requires : goal.separator-requires
-separator-requires c = omega arith
 
 pub bounds-out-end : goal.bounds-out-end
 bounds-out-end c =
@@ -61,12 +37,6 @@ overflow_add-end c =
     let k = c.put_part-end in
     let s = part_size a.lent.now p a.count l.i (omega arith) in
     omega (arith, c.requires.1, l.invariant.1, l.invariant.2, s, k.ensures.1, k.auto.out)
-
-pub overflow_add-i : goal.overflow_add-i
-overflow_add-i c = omega arith
-
-pub loop-i-smaller : goal.loop-i-smaller
-loop-i-smaller c = omega arith
 
 pub loop-i-preserved : goal.loop-i-preserved
 loop-i-preserved c =

@@ -12,6 +12,3 @@ invariant-loop-i l =
     × (length l.out ≡ length l.initial.out)
     × (l.end + length (line_from l.lent (laid l.kinds l.numbers l.from l.to l.own) (l.count - l.i) l.i) ≡ l.at + length (line_from l.lent (laid l.kinds l.numbers l.from l.to l.own) l.count 0))
     × (sets l.out l.end (line_from l.lent (laid l.kinds l.numbers l.from l.to l.own) (l.count - l.i) l.i) ≡ sets l.initial.out l.at (line_from l.lent (laid l.kinds l.numbers l.from l.to l.own) l.count 0))
-
-abbrev pub decreases-loop-i : goal.decreases-loop-i
-decreases-loop-i l = l.count - l.i

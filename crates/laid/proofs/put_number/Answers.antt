@@ -24,20 +24,8 @@ loop-k-init c =
       ap (λ (j : ℕ). sets a.out.now a.at (lasts j a.n)) z ∙ ap (sets a.out.now a.at) (sym (printed_lasts a.n)),
     )
 
-pub overflow_sub-k : goal.overflow_sub-k
-overflow_sub-k c = omega arith
-
-pub overflow_cast-out : goal.overflow_cast-out
-overflow_cast-out c = omega arith
-
-pub overflow_add-out : goal.overflow_add-out
-overflow_add-out c = omega arith
-
 pub bounds-out-k : goal.bounds-out-k
 bounds-out-k c = let l = c.loop-k in let p = c.requires in omega (arith, l.invariant.1, l.invariant.2, l.invariant.3, p)
-
-pub loop-k-smaller : goal.loop-k-smaller
-loop-k-smaller c = omega arith
 
 pub loop-k-preserved : goal.loop-k-preserved
 loop-k-preserved c =

@@ -10,6 +10,3 @@ use Rattle.laid.proofs.put_number.Given as goal
 abbrev pub invariant-loop-k : goal.invariant-loop-k
 invariant-loop-k l =
     (l.at ≤ l.k) × (l.k ≤ l.end) × (length l.out ≡ length l.initial.out) × (l.end ≡ l.at + length (print_number l.n)) × (sets l.out l.at (lasts (l.k - l.at) l.left) ≡ sets l.initial.out l.at (print_number l.n))
-
-abbrev pub decreases-loop-k : goal.decreases-loop-k
-decreases-loop-k l = l.k

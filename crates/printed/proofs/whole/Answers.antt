@@ -21,17 +21,11 @@ loop-at-init c =
     let z : drop w (replicate {A = ℕ} 24 0) ≡ replicate (24 - w) 0 = drop_zeros w 24 in
     (omega arith, refl, e, omega arith, ap₂ (λ (a b : List ℕ). a ++ b) f z)
 
-pub overflow_sub-at : goal.overflow_sub-at
-overflow_sub-at c = omega arith
-
 pub figure-requires : goal.figure-requires
 figure-requires c = omega arith
 
 pub bounds-bytes-at : goal.bounds-bytes-at
 bounds-bytes-at c = omega arith
-
-pub loop-at-smaller : goal.loop-at-smaller
-loop-at-smaller c = omega arith
 
 pub loop-at-preserved : goal.loop-at-preserved
 loop-at-preserved c =

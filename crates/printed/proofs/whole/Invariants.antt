@@ -12,6 +12,3 @@ abbrev pub invariant-loop-at : goal.invariant-loop-at
 invariant-loop-at l =
     (l.at ≤ l.w) × (length l.bytes ≡ 24) × (l.w ≡ length (print_number l.n)) × (l.w ≤ 20) ×
     (lasts l.at l.left ++ drop l.at l.bytes ≡ print_number l.n ++ replicate (24 - l.w) 0)
-
-abbrev pub decreases-loop-at : goal.decreases-loop-at
-decreases-loop-at l = l.at

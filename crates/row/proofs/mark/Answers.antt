@@ -1,12 +1,17 @@
 -- The one character of a field.
-use Rattle.cells.proofs.Tests.{tests}
+use Rattle.std.proofs.Common.{length, arith}
+use borrow.Author.Tests.{eq-eqb, ne_eqb}
 use Rattle.row.specs.Table.{mark}
 use Rattle.row.proofs.mark.Goals as goal
 
-pub returns-then-f-eq1 : goal.returns-then-f-eq1
+pub returns-in-len1 : goal.returns-in-len1
 unfolding mark
-returns-then-f-eq1 c = search tests
+returns-in-len1 c = rw (eq-eqb (length c.args.f.now) 1 (omega arith))
 
-pub returns : goal.returns
+pub returns-in_default : goal.returns-in_default
 unfolding mark
-returns c = search tests
+returns-in_default c = rw (ne_eqb (length c.args.f.now) 1 (λ e. omega (arith, e)))
+
+pub returns-in_default-2 : goal.returns-in_default-2
+unfolding mark
+returns-in_default-2 c = rw (ne_eqb (length c.args.f.now) 1 (λ e. omega (arith, e)))

@@ -1,5 +1,5 @@
 -- Each turn notes where the next field ends, and leaves those after its comma.
-use Prim.Native.Nat.{◌-◌, ◌≤◌}
+use Prim.Native.Nat.{◌≤◌}
 use lib.ListN.{length}
 use Rattle.row.specs.Table.{wide}
 use Rattle.line.specs.Fields.{fields_at}
@@ -10,6 +10,3 @@ use Rattle.row.proofs.part_line.Given as goal
 abbrev pub invariant-loop-k : goal.invariant-loop-k
 invariant-loop-k l =
     (l.k ≤ wide) × (l.from ≤ length l.s) × Cut l.k l.from (fields_at l.s l.from) l.ends (cut_count 0 (fields_at l.s l.at)) (cut_ends 0 l.at (fields_at l.s l.at) l.initial.ends)
-
-abbrev pub decreases-loop-k : goal.decreases-loop-k
-decreases-loop-k l = wide - l.k

@@ -1,23 +1,11 @@
 -- The loop leaves the row as it was: that of the fields from there on.
 -- Assumes nothing.
-use Prim.Native.Nat.{ℕ, ◌+◌, ◌-◌, ◌≤◌}
-use mathlib.Core.Path.{◌≡◌, sym, ◌∙◌}
-use mathlib.Core.Bool.{Bool, true, false}
-use mathlib.Core.List.{List, [], ◌∷◌}
-use native.Mathlib.Omega.{arith}
-use borrow.Author.Rules.{rules}
-use borrow.Author.Tests.{eq-eqb, ne_eqb}
-use lib.ListN.{length, take, drop}
-use lib.Seq.{slice}
-use Rattle.cells.proofs.Split.{split}
-use Rattle.line.specs.Fields.{field_end, fields_at, line_ends}
-use Rattle.field.specs.Field.{Context, context, free, text, read_field}
-use Rattle.field.specs.declared.Rule.{Rule}
-use Rattle.field.specs.declared.Field.{Field}
-use Rattle.line.proofs.Laws.{part}
-use Rattle.row.specs.Row.{refused_at}
+use Prim.Native.Nat.{◌+◌, ◌-◌, ◌≤◌}
+use mathlib.Core.Path.{◌≡◌}
+use lib.ListN.{length}
+use Rattle.line.specs.Fields.{fields_at}
+use Rattle.field.specs.Field.{context}
 use Rattle.row.specs.Code.Walk.{kept_from}
-use Rattle.line.proofs.Walk.{after_start, size, more, more_fit, last, within}
 use Rattle.row.proofs.read_kept.Given as goal
 
 abbrev pub invariant-loop-b : goal.invariant-loop-b

@@ -1,6 +1,6 @@
 -- The loop leaves the row as it was: that of the fields from there on, as many as are left of the count.
 -- Assumes nothing.
-use Prim.Native.Nat.{ℕ, ◌+◌, ◌-◌, ◌≤◌, ◌<◌}
+use Prim.Native.Nat.{ℕ, ◌+◌, ◌≤◌, ◌<◌}
 use mathlib.Core.Path.{◌≡◌}
 use mathlib.Core.Bool.{true, cond}
 use mathlib.Core.List.{List, []}
@@ -25,6 +25,3 @@ invariant-loop-i l =
     × (marks l.ends l.i l.from (left l.i l.t.count l.s l.from) ≡ true)
     × (numbers_from l.i l.t.each (left l.i l.t.count l.s l.from) l.numbers ≡ numbers_from 0 l.t.each (fields_at l.s l.at) l.initial.numbers)
     × (amounts_from l.i l.t.each (left l.i l.t.count l.s l.from) l.amounts ≡ amounts_from 0 l.t.each (fields_at l.s l.at) l.initial.amounts)
-
-abbrev pub decreases-loop-i : goal.decreases-loop-i
-decreases-loop-i l = l.t.count - l.i

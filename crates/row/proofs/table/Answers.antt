@@ -5,7 +5,6 @@ use mathlib.Core.Path.{ap, ap₂, ◌∙◌}
 use native.Mathlib.Omega.{arith}
 use Rattle.line.specs.Fields.{fields_at, nth}
 use Rattle.row.specs.Table.{rules_from, table_of}
-use borrow.Author.Rules.{rules}
 use Rattle.row.proofs.Parted.{width_of_lem}
 use Rattle.row.proofs.table.Goals as goal
 
