@@ -47,4 +47,4 @@ module _ (run : Run) (told : Result DaySet Halt) (e : told_run told ≡ run) (be
   -- and a refusal leaves them as they were.
   pub run_refused : (h : Halt) → told ≡ Err h → (h.number ≡ 0 → ⊥) → ReadsRun run before h.number (h.place ∷ h.code ∷ []) before
   unfolding unless0
-  run_refused h k z = rw (← e, k, ne_eqb h.number 0 z) (record { returns = refl; refuses = refl; leaves = refl })
+  run_refused h k z = rw (← e, k) (record { returns = refl; refuses = refl; leaves = rw (ne_eqb h.number 0 z) refl })

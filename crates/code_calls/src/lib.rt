@@ -112,7 +112,8 @@ pub fn run_read(issue: u8, codes: &[u8], days: &mut [u32; 13], refusal: &mut [u6
     match days::read_run(issue, codes) {
         Ok(set) => {
             *refusal = [0; 2];
-            *days = set.cells;
+            let cells = set.cells;
+            *days = cells;
             0
         }
         Err(h) => {

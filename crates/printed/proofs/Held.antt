@@ -9,7 +9,9 @@ use borrow.Author.Tests.{eqb-true}
 use lib.Dec.{eqb}
 use lib.ListN.{length}
 use Rattle.cells.proofs.Split.{split}
-use Rattle.cells.specs.Test.{Answer, took, refused}
+use Rattle.std.specs.Prelude.{Result, Ok, Err}
+use Rattle.cells.specs.Test.{Answer, took, refused, fault}
+use Rattle.cells.specs.declared.Fault.{Fault}
 use Rattle.cells.specs.Writing.{Writes}
 use Rattle.text.specs.Lent.{no_field}
 
@@ -19,15 +21,19 @@ long n s a x h =
     split (eqb (length s) n) (λ e. eqb-true (length s) n e)
     (λ e. absurd (let k = simp e at h in let z : ◌≡◌ {A = ℕ} 0 1 = cc in omega arith))
 
-module _ (A : Type 0) (read : List ℕ → Answer A) (blank : List ℕ) (raw : A → List ℕ) (back : (s : List ℕ) (x : A) → read s ≡ took x → raw x ≡ s) where
-  pub held : (s : List ℕ) (x : A) (ok : Bool) → Writes A read blank x (cond ok 0 35) (cond ok (raw x) blank) → read s ≡ took x → cond ok (raw x) no_field ≡ s
-  held s x true w h = back s x h
-  held s x false w h = absurd ((w.refuses (λ z. omega arith)).2 s h)
+module _ (A : Type 0) (read : List ℕ → Answer A) (raw : A → List ℕ) (back : (s : List ℕ) (x : A) → read s ≡ took x → raw x ≡ s) where
+  -- what is written where what is printed reads as the record
+  abbrev pub answer : A → Bool → Result (List ℕ) Fault
+  answer x ok = cond ok (Ok (raw x)) (Err (fault 35 0))
 
-  pub none : (x : A) (ok : Bool) → Writes A read blank x (cond ok 0 35) (cond ok (raw x) blank) → ((s : List ℕ) → read s ≡ took x → ⊥) → cond ok (raw x) no_field ≡ no_field
-  none x true w h = absurd (h (raw x) (w.reads refl))
+  pub held : (s : List ℕ) (x : A) (ok : Bool) → Writes A read x (answer x ok) → read s ≡ took x → cond ok (raw x) no_field ≡ s
+  held s x true w h = back s x h
+  held s x false w h = absurd ((w.refuses _ refl).1 s h)
+
+  pub none : (x : A) (ok : Bool) → Writes A read x (answer x ok) → ((s : List ℕ) → read s ≡ took x → ⊥) → cond ok (raw x) no_field ≡ no_field
+  none x true w h = absurd (h (raw x) (w.reads _ refl))
   none x false w h = refl
 
-  pub reads : (x y : A) (ok : Bool) → Writes A read blank x (cond ok 0 35) (cond ok (raw x) blank) → (read no_field ≡ took y → ⊥) → read (cond ok (raw x) no_field) ≡ took y → y ≡ x
-  reads x y true w z h = let k : read (raw x) ≡ took x = w.reads refl in cc
+  pub reads : (x y : A) (ok : Bool) → Writes A read x (answer x ok) → (read no_field ≡ took y → ⊥) → read (cond ok (raw x) no_field) ≡ took y → y ≡ x
+  reads x y true w z h = let k : read (raw x) ≡ took x = w.reads _ refl in cc
   reads x y false w z h = absurd (z h)

@@ -128,22 +128,18 @@ pub fn day(t: Date) -> Piece
 pub fn usage(i: Instruction) -> Piece
     ensures { result ≡ piece (usage_field i) }
 {
-    let w = usage_writer::write(i);
-    if w.number != 0 {
-        return nothing();
+    match usage_writer::write(i) {
+        Ok(sixteen) => copied(&sixteen),
+        Err(_) => nothing(),
     }
-    let code = w.code;
-    copied(&code)
 }
 
 // The field of a supplementary code's record.
 pub fn supplement(x: Supplement) -> Piece
     ensures { result ≡ piece (supplement_field x) }
 {
-    let v = supplement_writer::write(x);
-    if v.number != 0 {
-        return nothing();
+    match supplement_writer::write(x) {
+        Ok(eight) => copied(&eight),
+        Err(_) => nothing(),
     }
-    let code = v.code;
-    copied(&code)
 }

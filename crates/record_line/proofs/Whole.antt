@@ -21,9 +21,10 @@ use Rattle.row.specs.declared.Row.{Row}
 use Rattle.line.proofs.Walk.{outside, first, more, last, more_fit, size, some}
 use Rattle.record_line.specs.Line.{refusal, from_row, read_fields, number_in, record_number, read_parts, line_after, line_at}
 use Rattle.record_line.specs.Code.Built.{sofar, refused_line, fields_line, Heads}
+use Rattle.record.specs.declared.Refusal.{Refusal}
 use Rattle.record_line.specs.declared.Head.{Head}
 use Rattle.record_line.proofs.Built.{right_row, built, right_line, wrong_line}
-use Rattle.std.specs.Prelude.{Err, Ok}
+use Rattle.std.specs.Prelude.{Err, Ok, Result}
 
 -- the fields after the first, with its comma
 join_more : (f : List ℕ) (fs : List (List ℕ)) → 1 ≤ length fs → length (join (f ∷ fs)) ≡ length f + 1 + length (join fs)

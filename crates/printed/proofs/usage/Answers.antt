@@ -6,15 +6,11 @@ use Rattle.printed.specs.Printed.{piece}
 use Rattle.printed.proofs.Laws.{usage_held, usage_none, usage_long}
 use Rattle.printed.proofs.usage.Goals as goal
 
-pub returns-then-w-ne0 : goal.returns-then-w-ne0
-returns-then-w-ne0 c = c.nothing.ensures ∙ ap piece (sym (usage_none c.args.i (c.write-w.ensures.refuses c.if-w-ne0.true).2))
-
 pub copied-requires : goal.copied-requires
-copied-requires c =
-    let w = c.write-w in
-    omega (arith, usage_long w.result.code c.args.i (w.ensures.reads c.if-w-ne0.false))
+copied-requires c = omega (arith, usage_long _ c.args.i (c.write.ensures.reads _ c.in-Ok.is))
 
-pub returns : goal.returns
-returns c =
-    let w = c.write-w in
-    c.copied.ensures ∙ ap piece (sym (usage_held w.result.code c.args.i (w.ensures.reads c.if-w-ne0.false)))
+pub returns-in-Ok : goal.returns-in-Ok
+returns-in-Ok c = c.copied.ensures ∙ ap piece (sym (usage_held _ c.args.i (c.write.ensures.reads _ c.in-Ok.is)))
+
+pub returns-in-Err : goal.returns-in-Err
+returns-in-Err c = c.nothing.ensures ∙ ap piece (sym (usage_none c.args.i (c.write.ensures.refuses _ c.in-Err.is).1))

@@ -17,19 +17,19 @@ pub returns-in-Err : goal.returns-in-Err
 unfolding open_file file_fault first
 returns-in-Err c =
     let s = c.args.s.now in
-    let v = refused_by _ _ _ c.frame_fault.ensures c.in-Err.is in
+    let v = refused_by (frame_fault s) _ _ c.frame_fault.ensures c.in-Err.is in
     rw (le-leb (length s) 16384 (omega arith), ne_eqb _ _ v.1) (c.opened-in-Err.ensures ∙ ap (λ (x : Fault). opened 21 x.place) (sym v.0))
 
 pub returns-then-is_version : goal.returns-then-is_version
 unfolding open_file file_fault first
 returns-then-is_version c =
     let s = c.args.s.now in
-    let z = eq-eqb _ 0 (passed_by _ _ c.frame_fault.ensures c.in_default.not-Err) in
+    let z = eq-eqb _ 0 (passed_by (frame_fault s) _ c.frame_fault.ensures c.in_default.not-Err) in
     rw (le-leb (length s) 16384 (omega arith), z, sym c.is_version.ensures ∙ c.if-is_version.true) c.opened-then-is_version.ensures
 
 pub returns : goal.returns
 unfolding open_file file_fault first
 returns c =
     let s = c.args.s.now in
-    let z = eq-eqb _ 0 (passed_by _ _ c.frame_fault.ensures c.in_default.not-Err) in
+    let z = eq-eqb _ 0 (passed_by (frame_fault s) _ c.frame_fault.ensures c.in_default.not-Err) in
     rw (le-leb (length s) 16384 (omega arith), z, sym c.is_version.ensures ∙ c.if-is_version.false) c.opened-2.ensures

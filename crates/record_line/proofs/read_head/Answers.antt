@@ -63,8 +63,8 @@ returns-then-line_ends c =
     (head_bare a.last a.s.now a.at (omega arith) e.result e.ensures n.result g _ refl v
     (sym c.line_ends.ensures ∙ c.if-line_ends.true))
 
-pub overflow_add-end : goal.overflow_add-end
-overflow_add-end c =
+pub overflow_add-result : goal.overflow_add-result
+overflow_add-result c =
     let a = c.args in
     let e = c.field_end-end in
     let f : e.result + 1 ≤ length a.s.now =
