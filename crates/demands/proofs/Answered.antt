@@ -14,12 +14,12 @@ use Rattle.usage.specs.Usage as usage
 use Rattle.usage.specs.declared.Instruction.{Instruction}
 use Rattle.usage_writer.specs.Writes.{WritesUsage}
 use Rattle.usage_writer.specs.Print as usage_code
-use Rattle.usage_writer.specs.declared.Written.{Written as WrittenUsage}
 use Rattle.usage_writer.proofs.Writing as usage_writer
 use Rattle.usage_writer.proofs.Laws as usage_laws
+use Rattle.supplement.specs.Supplement as supplement
 use Rattle.supplement.specs.declared.Supplement.{Supplement}
+use Rattle.supplement_writer.specs.Print as supplement_code
 use Rattle.supplement_writer.specs.Writes.{WritesSupplement}
-use Rattle.supplement_writer.specs.declared.Written.{Written as WrittenSupplement}
 use Rattle.supplement_writer.proofs.Writing as supplement_writer
 use Rattle.supplement_writer.proofs.Laws as supplement_laws
 use Rattle.order.proofs.Bools.{clash}
@@ -32,20 +32,26 @@ use Rattle.std.specs.Prelude.{Err, Ok, Result, ℕ}
 use Rattle.cells.specs.declared.Fault.{Fault}
 
 -- An instruction,
-pub usage_answered : (i : Instruction) → One WrittenUsage (WritesUsage i)
+pub usage_answered : (i : Instruction) → One (Result (List ℕ) Fault) (WritesUsage i)
 usage_answered i = by (usage.read_usage (usage_code.raw i)) refl
   where
-    one : (w : WrittenUsage) → WritesUsage i w → One WrittenUsage (WritesUsage i)
+    one : (w : Result (List ℕ) Fault) → WritesUsage i w → One (Result (List ℕ) Fault) (WritesUsage i)
     one w k = record { answer = w; meets = k; only = λ v h. usage_laws.one_written i v w h k }
 
-    by : (a : Answer Instruction) → usage.read_usage (usage_code.raw i) ≡ a → One WrittenUsage (WritesUsage i)
-    by (took j) e = one _ (usage_writer.written i (Ok j) (sym e))
-    by (refused n p) e = one _ (usage_writer.written i (Err (fault n p)) (sym e))
+    by : (a : Answer Instruction) → usage.read_usage (usage_code.raw i) ≡ a → One (Result (List ℕ) Fault) (WritesUsage i)
+    by (took j) e = one _ (usage_writer.answered i (Ok j) (sym e))
+    by (refused n p) e = one _ (usage_writer.answered i (Err (fault n p)) (sym e))
 
 -- and a supplement.
-pub supplement_answered : (x : Supplement) → One WrittenSupplement (WritesSupplement x)
-supplement_answered x =
-    record { answer = _; meets = supplement_writer.written x; only = λ v h. supplement_laws.one_written x v _ h (supplement_writer.written x) }
+pub supplement_answered : (x : Supplement) → One (Result (List ℕ) Fault) (WritesSupplement x)
+supplement_answered x = by (supplement.read_supplement (supplement_code.raw x)) refl
+  where
+    one : (w : Result (List ℕ) Fault) → WritesSupplement x w → One (Result (List ℕ) Fault) (WritesSupplement x)
+    one w k = record { answer = w; meets = k; only = λ v h. supplement_laws.one_written x v w h k }
+
+    by : (a : Answer Supplement) → supplement.read_supplement (supplement_code.raw x) ≡ a → One (Result (List ℕ) Fault) (WritesSupplement x)
+    by (took y) e = one _ (supplement_writer.answered x (Ok y) (sym e))
+    by (refused n p) e = one _ (supplement_writer.answered x (Err (fault n p)) (sym e))
 
 -- ---- a set of days
 module _ (issue : ℕ) (cells before : List ℕ) where

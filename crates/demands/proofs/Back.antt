@@ -1,7 +1,7 @@
 -- Codes and runs: written back as they were read, and read as they were written.
 -- Assumes nothing.
 use Prim.Native.Nat.{ℕ, ◌*◌, ◌/◌, ◌≤◌}
-use mathlib.Core.Path.{◌≡◌, ◌∙◌, sym, ap}
+use mathlib.Core.Path.{◌≡◌, refl, ◌∙◌, sym, ap}
 use mathlib.Core.List.{List, ◌++◌}
 use native.Mathlib.Omega.{arith}
 use borrow.Author.Tests.{eqb-true, eqb-false, leb-true, leb-false}
@@ -14,36 +14,32 @@ use Rattle.cells.proofs.Split.{split}
 use Rattle.usage.specs.Usage.{read_usage}
 use Rattle.usage.specs.declared.Instruction.{Instruction}
 use Rattle.usage_writer.specs.Writes.{WritesUsage}
-use Rattle.usage_writer.specs.declared.Written.{Written as WrittenUsage}
 use Rattle.usage_writer.proofs.Laws as usage
 use Rattle.supplement.specs.Supplement.{read_supplement}
 use Rattle.supplement.specs.declared.Supplement.{Supplement}
 use Rattle.supplement_writer.specs.Writes.{WritesSupplement}
-use Rattle.supplement_writer.specs.declared.Written.{Written as WrittenSupplement}
 use Rattle.supplement_writer.proofs.Laws as supplement
 use Rattle.days.specs.Run.{takes, a_month, read_run}
 use Rattle.days_writer.specs.Set.{writable, said, WritesSet}
 use Rattle.days_writer.proofs.Laws as days
 use Rattle.demands.proofs.Runs.{its_month, whole_codes}
-use Rattle.std.specs.Prelude.{Result, ℕ}
+use Rattle.std.specs.Prelude.{Result, Ok, Err}
 use Rattle.cells.specs.declared.Fault.{Fault}
 
 -- ---- codes
 -- a writer of codes of which no two read as one record
-module _ (A : Type 0) (read : List ℕ → Answer A) (blank : List ℕ) (one_code : (s t : List ℕ) (x : A) → read s ≡ took x → read t ≡ took x → s ≡ t) where
-  code_back : (s : List ℕ) (x : A) (number : ℕ) (code : List ℕ) → read s ≡ took x → Writes A read blank x number code → (number ≡ 0) × (code ≡ s)
-  code_back s x number code h k =
-      split (eqb number 0) (λ a. let z : number ≡ 0 = eqb-true _ _ a in (z, one_code code s x (k.reads z) h))
-      (λ a. absurd ((k.refuses (eqb-false _ _ a)).2 s h))
+module _ (A : Type 0) (read : List ℕ → Answer A) (one_code : (s t : List ℕ) (x : A) → read s ≡ took x → read t ≡ took x → s ≡ t) where
+  code_back : (s : List ℕ) (x : A) (w : Result (List ℕ) Fault) → read s ≡ took x → Writes A read x w → w ≡ Ok s
+  code_back s x (Ok code) h k = ap Ok (one_code code s x (k.reads code refl) h)
+  code_back s x (Err f) h k = absurd ((k.refuses f refl).1 s h)
 
 -- A usage code that was read is written as it stood,
-pub usage_written_back : (s : List ℕ) (i : Instruction) (w : WrittenUsage) → read_usage s ≡ took i → WritesUsage i w → (w.number ≡ 0) × (w.code ≡ s)
-usage_written_back s i w = code_back Instruction read_usage _ usage.one_code s i w.number w.code
+pub usage_written_back : (s : List ℕ) (i : Instruction) (w : Result (List ℕ) Fault) → read_usage s ≡ took i → WritesUsage i w → w ≡ Ok s
+usage_written_back = code_back Instruction read_usage usage.one_code
 
 -- and so is a supplementary code.
-pub supplement_written_back : (s : List ℕ) (x : Supplement) (w : WrittenSupplement) → read_supplement s ≡ took x → WritesSupplement x w →
-    (w.number ≡ 0) × (w.code ≡ s)
-supplement_written_back s x w = code_back Supplement read_supplement _ supplement.one_code s x w.number w.code
+pub supplement_written_back : (s : List ℕ) (x : Supplement) (w : Result (List ℕ) Fault) → read_supplement s ≡ took x → WritesSupplement x w → w ≡ Ok s
+supplement_written_back = code_back Supplement read_supplement supplement.one_code
 
 -- ---- runs
 module _ (issue : ℕ) where

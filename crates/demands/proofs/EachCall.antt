@@ -27,6 +27,6 @@ number_and_place =
       date = dates.unnamed;
       date_read = dates.read;
       calendar = calendar_exactly;
-      usage_written = λ i w k z. let r = k.refuses z in (r.0, r.2);
-      supplement_written = λ x w k z. let r = k.refuses z in (r.0, r.2);
+      usage_written = λ i w k. k.refuses;
+      supplement_written = λ x w k. k.refuses;
     }

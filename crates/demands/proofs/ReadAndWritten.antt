@@ -11,11 +11,9 @@ use Rattle.cells.specs.Test.{took}
 use Rattle.usage.specs.Usage.{read_usage}
 use Rattle.usage.specs.declared.Instruction.{Instruction}
 use Rattle.usage_writer.specs.Writes.{WritesUsage}
-use Rattle.usage_writer.specs.declared.Written.{Written as WrittenUsage}
 use Rattle.supplement.specs.Supplement.{read_supplement}
 use Rattle.supplement.specs.declared.Supplement.{Supplement}
 use Rattle.supplement_writer.specs.Writes.{WritesSupplement}
-use Rattle.supplement_writer.specs.declared.Written.{Written as WrittenSupplement}
 use Rattle.days.specs.Run.{takes, read_run}
 use Rattle.days_writer.specs.Set.{said, WritesSet}
 use Rattle.record.specs.declared.Record.{Record}
@@ -27,7 +25,7 @@ use Rattle.writer.specs.Writer.{Left}
 use Rattle.writer.specs.Files.{Item, item, held_in, write_file, written_in, Holds}
 use Rattle.writer.proofs.Laws as writer
 use Rattle.demands.specs.Taken.{TakenUsage, TakenSupplement, TakenRun, TakenFile}
-use Rattle.std.specs.Prelude.{Result, ℕ}
+use Rattle.std.specs.Prelude.{Result, Ok}
 use Rattle.cells.specs.declared.Fault.{Fault}
 use Rattle.demands.proofs.Codes as codes
 use Rattle.demands.proofs.TakenRuns as taken_runs
@@ -57,12 +55,11 @@ handed_out s rs t n = calls s n ∙ ap (λ (f : File). answer_at n f.records f.e
 
 -- ---- "Write back what was read: the same bytes."
 -- A usage code,
-pub usage_written_back : (s : List ℕ) (i : Instruction) (w : WrittenUsage) → read_usage s ≡ took i → WritesUsage i w → (w.number ≡ 0) × (w.code ≡ s)
+pub usage_written_back : (s : List ℕ) (i : Instruction) (w : Result (List ℕ) Fault) → read_usage s ≡ took i → WritesUsage i w → w ≡ Ok s
 usage_written_back = back.usage_written_back
 
 -- a supplementary code,
-pub supplement_written_back : (s : List ℕ) (x : Supplement) (w : WrittenSupplement) → read_supplement s ≡ took x → WritesSupplement x w →
-    (w.number ≡ 0) × (w.code ≡ s)
+pub supplement_written_back : (s : List ℕ) (x : Supplement) (w : Result (List ℕ) Fault) → read_supplement s ≡ took x → WritesSupplement x w → w ≡ Ok s
 supplement_written_back = back.supplement_written_back
 
 -- a run, into a buffer with room for it,
@@ -82,11 +79,11 @@ file_written_back s rs out h l =
 
 -- ---- "Read what was written: the same records."
 -- A usage code,
-pub usage_read_back : (i : Instruction) (w : WrittenUsage) → WritesUsage i w → w.number ≡ 0 → read_usage w.code ≡ took i
+pub usage_read_back : (i : Instruction) (w : Result (List ℕ) Fault) → WritesUsage i w → (code : List ℕ) → w ≡ Ok code → read_usage code ≡ took i
 usage_read_back i w k = k.reads
 
 -- a supplementary code,
-pub supplement_read_back : (x : Supplement) (w : WrittenSupplement) → WritesSupplement x w → w.number ≡ 0 → read_supplement w.code ≡ took x
+pub supplement_read_back : (x : Supplement) (w : Result (List ℕ) Fault) → WritesSupplement x w → (code : List ℕ) → w ≡ Ok code → read_supplement code ≡ took x
 supplement_read_back x w k = k.reads
 
 -- the codes that writing a set of days tells,

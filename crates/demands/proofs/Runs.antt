@@ -17,8 +17,7 @@ use Rattle.cells.proofs.Split.{split}
 use Rattle.cells.proofs.Alike.{and_left, and_parts}
 use Rattle.supplement.specs.Supplement.{read_supplement}
 use Rattle.supplement.specs.declared.Supplement.{Supplement}
-use Rattle.days.specs.Run.{Code, code_of, allowed, eights, Stop, stopped, stop, takes, refuses, a_month, answers_in, read_run}
-use Rattle.days.specs.declared.Run.{Run}
+use Rattle.days.specs.Run.{Code, code_of, allowed, eights, Stop, stopped, stop, takes, refuses, a_month, answers_in, read_run, Run}
 use Rattle.schedule.specs.Schedule.{dates, date_run}
 use Rattle.days_writer.specs.Set.{writable, said, WritesSet}
 use Rattle.demands.specs.Numbers.{Comes, here, next, RunNumber, not_whole, empty, no_run, own, SetNumber, cannot, room}

@@ -15,8 +15,7 @@ use Rattle.cells.proofs.Split.{split}
 use Rattle.cells.proofs.Alike.{and_left, and_right}
 use Rattle.supplement.specs.Supplement.{read_supplement}
 use Rattle.supplement.specs.declared.Supplement.{Supplement}
-use Rattle.days.specs.Run.{Code, code_of, allowed, eights, stop, codes_of, set_of, takes, a_month, answers_in, read_run}
-use Rattle.days.specs.declared.Run.{Run}
+use Rattle.days.specs.Run.{Code, code_of, allowed, eights, stop, codes_of, set_of, takes, a_month, answers_in, read_run, Run}
 use Rattle.days.proofs.Laws.{beginning}
 use Rattle.schedule.specs.Schedule.{dates}
 use Rattle.demands.specs.Taken.{TakenRun}

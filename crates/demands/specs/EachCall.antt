@@ -1,16 +1,14 @@
 -- Demand 1, call by call: that writing has one answer, and which of document 01's numbers a refusal tells. `Numbers` has the table of numbers
 -- and places.
 -- Assumes nothing.
-use Rattle.std.specs.Prelude.{ℕ, ◌≤◌, ◌<◌, ◌≡◌, List, ◌↔◌, length, Result}
-use Rattle.cells.specs.Test.{took, refused}
+use Rattle.std.specs.Prelude.{ℕ, ◌≤◌, ◌<◌, ◌≡◌, List, ◌↔◌, length, Result, Err}
+use Rattle.cells.specs.Test.{took, refused, fault}
 use Rattle.usage.specs.Usage.{read_usage}
 use Rattle.usage.specs.declared.Instruction.{Instruction}
 use Rattle.usage_writer.specs.Writes.{WritesUsage}
-use Rattle.usage_writer.specs.declared.Written.{Written as WrittenUsage}
 use Rattle.supplement.specs.Supplement.{read_supplement}
 use Rattle.supplement.specs.declared.Supplement.{Supplement}
 use Rattle.supplement_writer.specs.Writes.{WritesSupplement}
-use Rattle.supplement_writer.specs.declared.Written.{Written as WrittenSupplement}
 use Rattle.days.specs.Run.{stopped, refuses, read_run}
 use Rattle.days_writer.specs.Set.{WritesSet}
 use Rattle.date.specs.Date.{read_date, make_western, make_era, make_date}
@@ -31,9 +29,9 @@ use Rattle.cells.specs.declared.Fault.{Fault}
 -- "Every file, code and record handed over gets an answer": writing a code or a set of days has one answer that meets its promise, and no other.
 pub record Answered : Type 0 where
   -- An instruction to write as a usage code,
-  pub usage : (i : Instruction) → One WrittenUsage (WritesUsage i)
+  pub usage : (i : Instruction) → One (Result (List ℕ) Fault) (WritesUsage i)
   -- a supplement to write as a supplementary code,
-  pub supplement : (x : Supplement) → One WrittenSupplement (WritesSupplement x)
+  pub supplement : (x : Supplement) → One (Result (List ℕ) Fault) (WritesSupplement x)
   -- and a set of days, which has thirteen cells, into a lent buffer: the answer comes with the buffer after it.
   pub set : (issue : ℕ) (cells before : List ℕ) → length cells ≡ 13 → One (List ℕ × Result ℕ Fault) (λ a. WritesSet issue cells before a.0 a.1)
 
@@ -62,8 +60,8 @@ pub record NumberAndPlace : Type 0 where
   pub calendar : (s : List ℕ) (rp : ℕ) (start : Day) (n room : ℕ) (f : Refusal) →
       (calendar_of s rp start n room ≡ Not f) ↔ CalendarRefusal s rp start n room f
   -- writing a usage code: "35 code record that no code reads as",
-  pub usage_written : (i : Instruction) (w : WrittenUsage) → WritesUsage i w → (w.number ≡ 0 → ⊥) →
-      (w.number ≡ 35) × ((s : List ℕ) → read_usage s ≡ took i → ⊥)
+  pub usage_written : (i : Instruction) (w : Result (List ℕ) Fault) → WritesUsage i w → (f : Fault) → w ≡ Err f →
+      (f ≡ fault 35 0) × ((s : List ℕ) → read_usage s ≡ took i → ⊥)
   -- and writing a supplementary code.
-  pub supplement_written : (x : Supplement) (w : WrittenSupplement) → WritesSupplement x w → (w.number ≡ 0 → ⊥) →
-      (w.number ≡ 35) × ((s : List ℕ) → read_supplement s ≡ took x → ⊥)
+  pub supplement_written : (x : Supplement) (w : Result (List ℕ) Fault) → WritesSupplement x w → (f : Fault) → w ≡ Err f →
+      (f ≡ fault 35 0) × ((s : List ℕ) → read_supplement s ≡ took x → ⊥)

@@ -13,8 +13,7 @@ use Rattle.supplement.specs.Amount.{may, next, columns, figures_of, decimals_of,
 use Rattle.supplement.specs.Supplement.{last_day, empty_week, more_days, read_supplement, saying, no_week, no_days}
 use Rattle.supplement.specs.Supplement as S
 use Rattle.supplement.specs.declared.Supplement.{Supplement}
-use Rattle.days.specs.Run.{upto0, distance, last_of, follows, allowed, eights, stop, stopped, codes_of, mask_of, days_at, set_of, takes, refuses, read_run}
-use Rattle.days.specs.declared.Run.{Run}
+use Rattle.days.specs.Run.{upto0, distance, last_of, follows, allowed, eights, stop, stopped, codes_of, mask_of, days_at, set_of, takes, refuses, read_run, Run}
 
 -- A row's input: a usage code, a supplementary code, or a run for an issue month.
 data Input : Type 0 where
