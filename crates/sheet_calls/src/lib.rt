@@ -43,18 +43,18 @@ pub fn next(
     ensures { Steps (next_record file.now (reader_of state.old)) state.old numbers.old result refusal.new state.new numbers.new }
 {
     let step = reader::next(file, told::reader_state(state));
-    let handed = step.next;
-    match handed {
-        Ok(Some(r)) => {
-            told::put_reader(step.state, state);
-            plain_record::put_record(r, numbers);
+    match step.next {
+        Ok(handed) => {
             *refusal = [0; REFUSAL];
-            0
+            match handed {
+                Some(r) => {
+                    told::put_reader(step.state, state);
+                    plain_record::put_record(r, numbers);
+                    0
+                }
+                None => 65535,
+            }
         }
         Err(f) => told::put_refusal(f, refusal),
-        Ok(None) => {
-            *refusal = [0; REFUSAL];
-            65535
-        }
     }
 }
