@@ -12,13 +12,13 @@ ghost use Rattle.held.specs.Held.{usage_value, supplement_value, print};
 ghost use Rattle.entry.specs.Entry.{kind_of, optional_part, parts_of, entry_of};
 ghost use Rattle.entry.specs.Code.Judge.{kept_number, kind_mark, table_by, number_wrong, part_wrong, wrong_typed, comma_from, texts_wrong, wrong_in};
 
-use supplement::Supplement;
-use usage::Instruction;
 use field::{Before, Rule};
 use laid::{NUMBER, OWN, PARTS, TEXT};
 use printed::Piece;
 use record::{Kept, Record, Record51, Record101, Record111, Record181, Record201, Sofar};
 use row::Rules;
+use supplement::Supplement;
+use usage::Instruction;
 
 // The number with which the reader would refuse a record, 0 where it takes it; and how many parts its line has.
 #[derive(Clone, Copy)]
