@@ -1,5 +1,5 @@
 // Records as plain numbers, for callers in C: the numbers of a record in an array, and the record that any numbers are held as.
-#![tactic(auto)]
+#![tactic(auto, using(cells::proofs::Tests::tests), unfolding(crate::specs::Records::usage_by, crate::specs::Records::supplement_by, crate::specs::Records::record_by))]
 
 ghost use Rattle.std.specs.Prelude.{◌≡◌, ◌+◌, ◌-◌, ◌≤◌, length, drop, replicate};
 ghost use Rattle.std.proofs.lemmas.List.Edits.{sets};
@@ -21,6 +21,7 @@ pub const RECORD: usize = 40;
 // so the compiler writes every 0 in place; all forty at once would be a call for each record.
 const FRONT: usize = 13;
 
+// Kept: a place is a usize, which std makes no u64 of by From, nor back: `as`, here and below.
 fn place_at(n: &[u64], from: usize, to: usize) -> Place
     ensures { result ≡ place_at n.now from to }
 {
@@ -50,10 +51,10 @@ fn put_51(x: Record51, n: &mut [u64; RECORD])
     ensures { n.new ≡ with_front (numbers_of (Issue x)) n.old }
 {
     n[0] = 51;
-    n[1] = x.date.era as u64;
-    n[2] = x.date.year as u64;
-    n[3] = x.date.month as u64;
-    n[4] = x.date.day as u64;
+    n[1] = u64::from(x.date.era);
+    n[2] = u64::from(x.date.year);
+    n[3] = u64::from(x.date.month);
+    n[4] = u64::from(x.date.day);
     clear(n, 5, FRONT);
 }
 
@@ -61,11 +62,11 @@ fn put_101(x: Record101, n: &mut [u64; RECORD])
     ensures { n.new ≡ with_front (numbers_of (Rp x)) n.old }
 {
     n[0] = 101;
-    n[1] = x.rp.0 as u64;
-    n[2] = x.form as u64;
+    n[1] = u64::from(x.rp.0);
+    n[2] = u64::from(x.form);
     n[3] = x.name.from as u64;
     n[4] = x.name.to as u64;
-    n[5] = x.quantity as u64;
+    n[5] = u64::from(x.quantity);
     clear(n, 6, FRONT);
 }
 
@@ -73,13 +74,12 @@ fn put_111(x: Record111, n: &mut [u64; RECORD])
     ensures { n.new ≡ with_front (numbers_of (Usage x)) n.old }
 {
     n[0] = 111;
-    n[1] = x.rp.0 as u64;
-    n[2] = x.kind as u64;
+    n[1] = u64::from(x.rp.0);
+    n[2] = u64::from(x.kind);
     n[3] = x.name.from as u64;
     n[4] = x.name.to as u64;
-    n[5] = x.times as u64;
-    let code = x.code;
-    if let Some(i) = code {
+    n[5] = u64::from(x.times);
+    if let Some(i) = x.code {
         let mut c = [0; USAGE];
         plain::put_usage(i, &mut c);
         put(n, 6, &c);
@@ -92,15 +92,14 @@ fn put_181(x: Record181, n: &mut [u64; RECORD])
     ensures { n.new ≡ with_front (numbers_of (Supply x)) n.old }
 {
     n[0] = 181;
-    n[1] = x.rp.0 as u64;
-    n[2] = x.serial.0 as u64;
-    n[3] = x.kind as u64;
+    n[1] = u64::from(x.rp.0);
+    n[2] = u64::from(x.serial.0);
+    n[3] = u64::from(x.kind);
     n[4] = x.text.from as u64;
     n[5] = x.text.to as u64;
     n[6] = x.site.from as u64;
     n[7] = x.site.to as u64;
-    let code = x.code;
-    if let Some(s) = code {
+    if let Some(s) = x.code {
         let mut c = [0; SUPPLEMENT];
         plain::put_supplement(s, &mut c);
         put(n, 8, &c);
@@ -113,16 +112,16 @@ fn put_201(x: Record201, n: &mut [u64; RECORD])
     ensures { n.new ≡ with_front (numbers_of (Drug x)) n.old }
 {
     n[0] = 201;
-    n[1] = x.rp.0 as u64;
-    n[2] = x.serial.0 as u64;
-    n[3] = x.kind as u64;
-    n[4] = x.coding as u64;
+    n[1] = u64::from(x.rp.0);
+    n[2] = u64::from(x.serial.0);
+    n[3] = u64::from(x.kind);
+    n[4] = u64::from(x.coding);
     n[5] = x.code.from as u64;
     n[6] = x.code.to as u64;
     n[7] = x.name.from as u64;
     n[8] = x.name.to as u64;
     n[9] = x.amount;
-    n[10] = x.flag as u64;
+    n[10] = u64::from(x.flag);
     n[11] = x.unit.from as u64;
     n[12] = x.unit.to as u64;
 }
@@ -130,7 +129,7 @@ fn put_201(x: Record201, n: &mut [u64; RECORD])
 fn put_kept(x: Kept, n: &mut [u64; RECORD])
     ensures { n.new ≡ with_front (numbers_of (KeptRecord x)) n.old }
 {
-    n[0] = x.number as u64;
+    n[0] = u64::from(x.number);
     n[1] = x.fields.from as u64;
     n[2] = x.fields.to as u64;
     clear(n, 3, FRONT);
@@ -152,34 +151,22 @@ pub fn put_record(r: Record, n: &mut [u64; RECORD])
 }
 
 // A code whose first number is 0 is empty.
-fn usage_by(first: u64, i: Instruction) -> Option<Instruction>
-    ensures { result ≡ usage_by first i }
-{
-    if first == 0 {
-        return None;
-    }
-    Some(i)
-}
-
 fn usage_code_of(n: &[u64]) -> Option<Instruction>
     ensures { result ≡ usage_code_of n.now }
 {
-    usage_by(plain::at(n, 0), plain::instruction(n))
-}
-
-fn supplement_by(first: u64, x: Supplement) -> Option<Supplement>
-    ensures { result ≡ supplement_by first x }
-{
-    if first == 0 {
+    if plain::at(n, 0) == 0 {
         return None;
     }
-    Some(x)
+    Some(plain::instruction(n))
 }
 
 fn supplement_code_of(n: &[u64]) -> Option<Supplement>
     ensures { result ≡ supplement_code_of n.now }
 {
-    supplement_by(plain::at(n, 0), plain::supplement(n))
+    if plain::at(n, 0) == 0 {
+        return None;
+    }
+    Some(plain::supplement(n))
 }
 
 // What stands from a place on; nothing, where there is no such place.
@@ -266,30 +253,16 @@ fn kept_of(n: &[u64]) -> Kept
     }
 }
 
-fn record_by(number: u64, n: &[u64]) -> Record
-    ensures { result ≡ record_by number n.now }
-{
-    if number == 51 {
-        return Record::Issue(record_51(n));
-    }
-    if number == 101 {
-        return Record::Rp(record_101(n));
-    }
-    if number == 111 {
-        return Record::Usage(record_111(n));
-    }
-    if number == 181 {
-        return Record::Supplement(record_181(n));
-    }
-    if number == 201 {
-        return Record::Drug(record_201(n));
-    }
-    Record::Kept(kept_of(n))
-}
-
 // The record of a record's numbers.
 pub fn record(n: &[u64]) -> Record
     ensures { result ≡ record_of n.now }
 {
-    record_by(plain::at(n, 0), n)
+    match plain::at(n, 0) {
+        51 => Record::Issue(record_51(n)),
+        101 => Record::Rp(record_101(n)),
+        111 => Record::Usage(record_111(n)),
+        181 => Record::Supplement(record_181(n)),
+        201 => Record::Drug(record_201(n)),
+        _ => Record::Kept(kept_of(n)),
+    }
 }

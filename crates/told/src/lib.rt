@@ -78,22 +78,22 @@ pub fn put_state(at: u64, opened: u64, c: Sofar, n: &mut [u64; STATE])
     *n = [0; STATE];
     n[0] = at;
     n[1] = opened;
-    n[2] = c.last as u64;
-    n[3] = b.month as u64;
-    n[4] = b.rp.0 as u64;
-    n[5] = b.drug.0 as u64;
-    n[6] = b.supplement.0 as u64;
-    n[7] = s.letter as u64;
-    n[8] = s.month as u64;
-    n[9] = s.last as u64;
-    n[10] = s.full as u64;
+    n[2] = u64::from(c.last);
+    n[3] = u64::from(b.month);
+    n[4] = u64::from(b.rp.0);
+    n[5] = u64::from(b.drug.0);
+    n[6] = u64::from(b.supplement.0);
+    n[7] = u64::from(s.letter);
+    n[8] = u64::from(s.month);
+    n[9] = u64::from(s.last);
+    n[10] = u64::from(s.full);
 }
 
 // A reader's numbers, which are held as its state.
 pub fn put_reader(t: reader::State, n: &mut [u64; STATE])
     ensures { (n.new ≡ reader_numbers t) × (reader_of n.new ≡ t) }
 {
-    put_state(t.at as u64, t.number as u64 + 1, t.sofar, n);
+    put_state(t.at as u64, u64::from(t.number) + 1, t.sofar, n);
 }
 
 // ---- answers
@@ -105,7 +105,7 @@ pub fn put_refusal(f: Refusal, refusal: &mut [u64; REFUSAL]) -> u16
     *refusal = [
         f.at as u64,
         f.field as u64,
-        f.code as u64,
+        u64::from(f.code),
         f.fault.place as u64,
     ];
     f.fault.number

@@ -17,8 +17,5 @@ pub returns-in-Some : goal.returns-in-Some
 returns-in-Some c =
     let a = c.args in
     let x = a.x in
-    rw c.in-Some.is
-    (c.put.ensures ∙ ap (λ (s : List ℕ). sets (sets a.n.now 0 (111 ∷ x.rp.0 ∷ x.kind ∷ x.name.from ∷ x.name.to ∷ x.times ∷ [])) 6 s) c.put_usage.ensures)
-
-pub returns-in_default : goal.returns-in_default
-returns-in_default c = rw c.in_default.is c.clear.ensures
+    rw (c.in-Some.is, ← c.from.ensures, ← c.from-2.ensures, ← c.from-3.ensures)
+    (c.put.ensures ∙ ap (λ (s : List ℕ). sets (sets a.n.now 0 (111 ∷ c.from.result ∷ c.from-2.result ∷ x.name.from ∷ x.name.to ∷ c.from-3.result ∷ [])) 6 s) c.put_usage.ensures)

@@ -17,8 +17,5 @@ pub returns-in-Some : goal.returns-in-Some
 returns-in-Some c =
     let a = c.args in
     let x = a.x in
-    rw c.in-Some.is
-    (c.put.ensures ∙ ap (λ (s : List ℕ). sets (sets a.n.now 0 (181 ∷ x.rp.0 ∷ x.serial.0 ∷ x.kind ∷ x.text.from ∷ x.text.to ∷ x.site.from ∷ x.site.to ∷ [])) 8 s) c.put_supplement.ensures)
-
-pub returns-in_default : goal.returns-in_default
-returns-in_default c = rw c.in_default.is c.clear.ensures
+    rw (c.in-Some.is, ← c.from.ensures, ← c.from-2.ensures, ← c.from-3.ensures)
+    (c.put.ensures ∙ ap (λ (s : List ℕ). sets (sets a.n.now 0 (181 ∷ c.from.result ∷ c.from-2.result ∷ c.from-3.result ∷ x.text.from ∷ x.text.to ∷ x.site.from ∷ x.site.to ∷ [])) 8 s) c.put_supplement.ensures)
