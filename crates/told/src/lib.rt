@@ -59,6 +59,7 @@ fn open_of(n: u64) -> u16
 }
 
 // A reader's state of its numbers.
+// Kept: a place is a usize, which std makes no u64 of by From, nor back: `as`, here and below.
 pub fn reader_state(n: &[u64]) -> reader::State
     ensures { result ≡ reader_of n.now }
 {

@@ -9,5 +9,5 @@ use Rattle.told.proofs.put_reader.Goals as goal
 pub returns : goal.returns
 returns c =
     let t = c.args.t in
-    let e = c.put_state.ensures in
+    let e = rw c.from.ensures at c.put_state.ensures in
     (e.0, ap reader_of e.0 ∙ reader_back (more {n = t.number} (omega arith) none) (ap sofar_of (sym e.0) ∙ e.1))

@@ -16,4 +16,14 @@ returns c =
       bytes = more {n = b.month} (omega arith) (more {n = s.letter} (omega arith) (more {n = s.month} (omega arith) (more {n = s.last} (omega arith) none)));
     }
     in
-    (rw (as_bit s.full), rw (as_bit s.full) (sofar_back fits a.at a.opened))
+    rw (
+      c.from.ensures,
+      c.from-2.ensures,
+      c.from-3.ensures,
+      c.from-4.ensures,
+      c.from-5.ensures,
+      c.from-6.ensures,
+      c.from-7.ensures,
+      c.from-8.ensures,
+      c.from-9.ensures,
+    ) (rw (as_bit s.full), rw (as_bit s.full) (sofar_back fits a.at a.opened))
