@@ -44,7 +44,7 @@ fn wide(n: u8) -> usize
 }
 
 // Where the mark of a day stands; month 0 is every month.
-fn place(month: u8, day: u8) -> usize
+pub fn place(month: u8, day: u8) -> usize
     ensures { result ≡ place_of month day }
 {
     wide(month) * 32 + wide(day)

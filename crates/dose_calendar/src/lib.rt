@@ -7,7 +7,7 @@ ghost use Rattle.days.specs.Run.{upto0};
 ghost use Rattle.record.specs.declared.Record.TheVariants.{Rp, Usage, Supplement as Supply};
 ghost use Rattle.day.specs.Day.{day as day_by};
 ghost use Rattle.course.specs.Calendar.{said, answers};
-ghost use Rattle.course.specs.Kept.{place as place_of, rule_of};
+ghost use Rattle.course.specs.Kept.{rule_of};
 ghost use Rattle.dose_calendar.specs.Found.{owns as owns_of, day_of};
 ghost use Rattle.dose_calendar.specs.Calendar.{calendar_of};
 ghost use Rattle.dose_calendar.specs.Code.Gather.{joined as joined_of, joined_by, mark_day, mark_days, marked_by, course as course_by, no_course, with_usage_of, with_rule, course_with, marks_with, Gives};
@@ -20,41 +20,25 @@ use record::{Record, Record101, Record111, Record181, Refusal};
 use supplement::{Days, Supplement};
 use usage::Instruction;
 
-fn wide(n: u8) -> usize
-    ensures { result ≡ n }
-{
-    n as usize
-}
-
 // ---- the records
 
 // Does a record carry the RP's number?
 fn owns(rp: u32, n: RpNumber) -> bool
     ensures { result ≡ owns_of rp n }
 {
-    n.0 as u32 == rp
-}
-
-// Where the mark of a day stands; month 0 is every month.
-fn place(month: u8, day: u8) -> usize
-    ensures { result ≡ place_of month day }
-{
-    wide(month) * 32 + wide(day)
+    u32::from(n.0) == rp
 }
 
 fn mark_day(marks: &mut [bool; 416], month: u8, day: u8)
-    requires { length marks.old ≡ 416 }
     ensures { marks.new ≡ mark_day marks.old month day }
 {
     if (month < 13) & (day < 32) {
-        let at = place(month, day);
-        marks[at] = true;
+        marks[course::place(month, day)] = true;
     }
 }
 
 // Marks the days of a date code, which end at its first 0.
 fn mark_days(marks: &mut [bool; 416], month: u8, days: Days)
-    requires { length marks.old ≡ 416 }
     ensures { marks.new ≡ mark_days marks.old month (upto0 (days.d1 ∷ days.d2 ∷ days.d3 ∷ days.d4 ∷ days.d5 ∷ days.d6 ∷ [])) }
 {
     let six = [days.d1, days.d2, days.d3, days.d4, days.d5, days.d6];
@@ -149,7 +133,6 @@ fn with_rule(c: Course, rule: Rule) -> Course
 }
 
 fn with_supplement(c: Course, marks: &mut [bool; 416], code: Option<Supplement>) -> Course
-    requires { length marks.old ≡ 416 }
     ensures { (result ≡ with_rule c (joined_by c.rule code)) × (marks.new ≡ marked_by marks.old code) }
 {
     match code {
@@ -202,7 +185,6 @@ fn after_usage(c: Course, rp: u32, x: Record111) -> Course
 
 // and each of its supplements.
 fn after_supplement(c: Course, marks: &mut [bool; 416], rp: u32, x: Record181) -> Course
-    requires { length marks.old ≡ 416 }
     ensures { (result ≡ course_with rp c (Supply x)) × (marks.new ≡ marks_with rp marks.old (Supply x)) }
 {
     if owns(rp, x.rp) {
@@ -213,7 +195,6 @@ fn after_supplement(c: Course, marks: &mut [bool; 416], rp: u32, x: Record181) -
 }
 
 fn with_record(c: Course, marks: &mut [bool; 416], rp: u32, r: Record) -> Course
-    requires { length marks.old ≡ 416 }
     ensures { (result ≡ course_with rp c r) × (marks.new ≡ marks_with rp marks.old r) }
 {
     match r {

@@ -28,7 +28,7 @@ fn writer_state(n: &[u64]) -> writer::State
 fn put_writer(t: writer::State, n: &mut [u64; STATE])
     ensures { (n.new ≡ writer_numbers t) × (writer_of n.new ≡ t) }
 {
-    told::put_state(t.at as u64, u64::from(!t.closed), t.sofar, n);
+    told::put_state(t.at as u64, !t.closed as u64, t.sofar, n);
 }
 
 // ---- the calls
@@ -62,7 +62,7 @@ pub fn put(
         lent,
     );
     let t = put.state;
-    *own = u64::from(put.own);
+    *own = put.own as u64;
     if put.number == 0 {
         put_writer(t, state);
     }
@@ -75,7 +75,7 @@ pub fn close(out: &mut [u8], state: &mut [u64; STATE], own: &mut u64) -> u16
 {
     let closed = writer::close(out, writer_state(state));
     let t = closed.state;
-    *own = u64::from(closed.own);
+    *own = closed.own as u64;
     if closed.number == 0 {
         put_writer(t, state);
     }

@@ -2,9 +2,6 @@
 -- Assumes nothing.
 use Rattle.dose_calendar.proofs.after_rp.Goals as goal
 
-pub owns-requires : goal.owns-requires
-owns-requires c = tt
-
 pub returns-then-owns : goal.returns-then-owns
 returns-then-owns c = rw (← c.owns.ensures, c.if-owns.true)
 

@@ -3,9 +3,6 @@
 use mathlib.Core.Path.{refl}
 use Rattle.dose_calendar.proofs.after_supplement.Goals as goal
 
-pub owns-requires : goal.owns-requires
-owns-requires c = tt
-
 pub returns-then-owns : goal.returns-then-owns
 returns-then-owns c = rw (← c.owns.ensures, c.if-owns.true) c.with_supplement.ensures
 

@@ -17,9 +17,6 @@ pub loop-r-init : goal.loop-r-init
 loop-r-init c = let a = c.args in
     goes_opened a.file.now a.rp _ _ a.marks.now c.open-from.ensures (rw c.no_course-c.ensures (keeps_none a.marks.now c.requires))
 
-pub with_record-c-requires : goal.with_record-c-requires
-with_record-c-requires c = c.loop-r.invariant.keeps.marked.places
-
 pub loop-r-smaller : goal.loop-r-smaller
 loop-r-smaller c = let s = c.args.file.now in
     let l = c.loop-r in

@@ -3,15 +3,6 @@
 use mathlib.Core.Path.{refl}
 use Rattle.dose_calendar.proofs.with_record.Goals as goal
 
-pub after_issue-requires : goal.after_issue-requires
-after_issue-requires c = tt
-
-pub after_rp-requires : goal.after_rp-requires
-after_rp-requires c = tt
-
-pub after_usage-requires : goal.after_usage-requires
-after_usage-requires c = tt
-
 pub returns-in-Issue : goal.returns-in-Issue
 returns-in-Issue c = rw c.in-Issue.is (c.after_issue.ensures, refl)
 

@@ -5,12 +5,6 @@ use Rattle.dose_calendar.specs.Code.Gather.{with_rule}
 use Rattle.course.specs.declared.Rule.{Rule}
 use Rattle.dose_calendar.proofs.with_supplement.Goals as goal
 
-pub joined-requires : goal.joined-requires
-joined-requires c = tt
-
-pub with_rule-requires : goal.with_rule-requires
-with_rule-requires c = tt
-
 pub returns-in-Some : goal.returns-in-Some
 returns-in-Some c = let a = c.args in
     rw c.in-Some.is

@@ -3,12 +3,6 @@
 use Rattle.course.specs.Plan.{times_fixed, times_of}
 use Rattle.dose_calendar.proofs.with_usage.Goals as goal
 
-pub fixes_times-requires : goal.fixes_times-requires
-fixes_times-requires c = tt
-
-pub with_times-requires : goal.with_times-requires
-with_times-requires c = tt
-
 pub with_times-requires-in-None : goal.with_times-requires-in-None
 with_times-requires-in-None c = tt
 
