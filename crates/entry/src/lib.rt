@@ -386,9 +386,7 @@ fn wrong_field(
     let code = row::code_field(n);
     let mark = kind_mark(kinds[kind], numbers[kind]);
     let rules = rules_by(n, mark, lent, from[code], to[code]);
-    let count = rules.count;
-    let mut i: usize = 0;
-    while i < count {
+    for i in 0..rules.count {
         let k = i + 1;
         let w = wrong_part(
             b,
@@ -403,7 +401,6 @@ fn wrong_field(
         if w != 0 {
             return w;
         }
-        i = k;
     }
     0
 }
@@ -413,14 +410,12 @@ fn comma(s: &[u8], from: usize) -> usize
     requires { from ≤ length s.now }
     ensures { result ≡ comma_from s.now from }
 {
-    let mut i = from;
-    while i < s.len() {
+    for i in from..s.len() {
         if s[i] == b',' {
             return i;
         }
-        i += 1;
     }
-    i
+    s.len()
 }
 
 // The first wrong text of those between commas.

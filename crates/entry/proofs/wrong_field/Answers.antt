@@ -47,40 +47,39 @@ loop-i-init c =
     c.rules_by-rules.ensures ∙ (λ i. table_by a.n (mark i) (text_or a.lent.now no_field (get_or p.from (code i) 0) (get_or p.to (code i) 0))) in
     let few = few_rules a.n (kind_mark (get_or p.kinds (kind_field a.n) 0) (get_or p.numbers (kind_field a.n) 0) ∷ []) (text_or a.lent.now no_field (get_or p.from (code_field a.n) 0) (get_or p.to (code_field a.n) 0)) in
     let m = ap (λ (x : Rules). x.count) t in (
-      omega arith,
       omega (arith, m, few),
       rw sub-zero (ap (λ (x : Rules). wrong_from (context a.b) a.lent.now x.each p x.count 0) t),
     )
 
 pub overflow_add-k : goal.overflow_add-k
-overflow_add-k c = let l = c.loop-i in omega (arith, l.invariant.1)
+overflow_add-k c = let l = c.loop-i in omega (arith, l.invariant.0)
 
 pub offset_bounds-rules-i : goal.offset_bounds-rules-i
-offset_bounds-rules-i c = let l = c.loop-i in omega (arith, l.invariant.1)
+offset_bounds-rules-i c = let l = c.loop-i in omega (arith, l.invariant.0)
 
 pub bounds-rules-i : goal.bounds-rules-i
-bounds-rules-i c = let l = c.loop-i in omega (arith, l.invariant.1)
+bounds-rules-i c = let l = c.loop-i in omega (arith, l.invariant.0)
 
 pub bounds-kinds-k : goal.bounds-kinds-k
-bounds-kinds-k c = let l = c.loop-i in omega (arith, l.invariant.1)
+bounds-kinds-k c = let l = c.loop-i in omega (arith, l.invariant.0)
 
 pub offset_bounds-numbers-k : goal.offset_bounds-numbers-k
-offset_bounds-numbers-k c = let l = c.loop-i in omega (arith, l.invariant.1)
+offset_bounds-numbers-k c = let l = c.loop-i in omega (arith, l.invariant.0)
 
 pub bounds-numbers-k : goal.bounds-numbers-k
-bounds-numbers-k c = let l = c.loop-i in omega (arith, l.invariant.1)
+bounds-numbers-k c = let l = c.loop-i in omega (arith, l.invariant.0)
 
 pub offset_bounds-from-k : goal.offset_bounds-from-k
-offset_bounds-from-k c = let l = c.loop-i in omega (arith, l.invariant.1)
+offset_bounds-from-k c = let l = c.loop-i in omega (arith, l.invariant.0)
 
 pub bounds-from-k : goal.bounds-from-k
-bounds-from-k c = let l = c.loop-i in omega (arith, l.invariant.1)
+bounds-from-k c = let l = c.loop-i in omega (arith, l.invariant.0)
 
 pub offset_bounds-to-k : goal.offset_bounds-to-k
-offset_bounds-to-k c = let l = c.loop-i in omega (arith, l.invariant.1)
+offset_bounds-to-k c = let l = c.loop-i in omega (arith, l.invariant.0)
 
 pub bounds-to-k : goal.bounds-to-k
-bounds-to-k c = let l = c.loop-i in omega (arith, l.invariant.1)
+bounds-to-k c = let l = c.loop-i in omega (arith, l.invariant.0)
 
 pub returns-then-w-ne0 : goal.returns-then-w-ne0
 returns-then-w-ne0 c =
@@ -91,7 +90,7 @@ returns-then-w-ne0 c =
     let w = c.wrong_part-w in
     w.ensures ∙
     sym (wrong_here (context a.b) a.lent.now t.each p t.count l.i (omega arith) (λ e. c.if-w-ne0.true (w.ensures ∙ e)))
-    ∙ l.invariant.2
+    ∙ l.invariant.1
 
 pub loop-i-preserved : goal.loop-i-preserved
 loop-i-preserved c =
@@ -100,9 +99,8 @@ loop-i-preserved c =
     let a = c.args in
     let p : Laid = laid a.kinds.now a.numbers.now a.from.now a.to.now a.own.now in
     let w = c.wrong_part-w in (
-      omega arith,
-      l.invariant.1,
-      sym (wrong_later (context a.b) a.lent.now t.each p t.count l.i (omega arith) (sym w.ensures ∙ c.if-w-ne0.false)) ∙ l.invariant.2,
+      l.invariant.0,
+      sym (wrong_later (context a.b) a.lent.now t.each p t.count l.i (omega arith) (sym w.ensures ∙ c.if-w-ne0.false)) ∙ l.invariant.1,
     )
 
 pub returns : goal.returns
@@ -111,4 +109,4 @@ returns c =
     let l = c.loop-i in
     let t = c.rules_by-rules.result in
     let z : t.count - l.i ≡ 0 = omega arith in
-    rw z at l.invariant.2
+    rw z at l.invariant.1

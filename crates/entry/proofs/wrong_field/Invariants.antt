@@ -9,10 +9,6 @@ use Rattle.entry.proofs.wrong_field.Given as goal
 
 abbrev pub invariant-loop-i : goal.invariant-loop-i
 invariant-loop-i l =
-    (l.i ≤ l.count)
-    × (l.count ≤ wide)
-    × (wrong_from (context l.b) l.lent l.rules.each (laid l.kinds l.numbers l.from l.to l.own) (l.count - l.i) l.i
+    (l.rules.count ≤ wide)
+    × (wrong_from (context l.b) l.lent l.rules.each (laid l.kinds l.numbers l.from l.to l.own) (l.rules.count - l.i) l.i
     ≡ wrong_typed (context l.b) l.lent l.n (laid l.kinds l.numbers l.from l.to l.own))
-
-abbrev pub decreases-loop-i : goal.decreases-loop-i
-decreases-loop-i l = l.count - l.i
