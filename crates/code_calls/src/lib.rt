@@ -161,7 +161,12 @@ fn made_numbers(m: Result<Date, Fault>, before: [u64; 4]) -> [u64; 4]
     ensures { result ≡ or_before date_numbers (said_date m) before }
 {
     match m {
-        Ok(t) => [u64::from(t.era), u64::from(t.year), u64::from(t.month), u64::from(t.day)],
+        Ok(t) => [
+            u64::from(t.era),
+            u64::from(t.year),
+            u64::from(t.month),
+            u64::from(t.day),
+        ],
         Err(_) => before,
     }
 }
