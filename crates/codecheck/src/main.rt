@@ -66,10 +66,10 @@ fn tell(rt: &impl Print, asked: Asked<'_>) -> Result<(), Fault> {
 fn again(code: &[u8]) -> Result<bool, Fault> {
     if code.len() == 8 {
         let written = supplement_writer::write(supplement::read(code)?);
-        return Ok(written.is_ok_and(|w| w.as_slice() == code));
+        return Ok(written.is_ok_and(|w| cells::same_bytes(&w, code)));
     }
     let written = usage_writer::write(usage::read(code)?);
-    Ok(written.is_ok_and(|w| w.as_slice() == code))
+    Ok(written.is_ok_and(|w| cells::same_bytes(&w, code)))
 }
 
 // The set written into a buffer of so many bytes.

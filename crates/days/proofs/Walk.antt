@@ -18,12 +18,12 @@ use Rattle.cells.proofs.Alike.{and_left, and_right}
 use Rattle.supplement.specs.Supplement.{last_day, read_supplement, said}
 use Rattle.supplement.specs.declared.Days.{Days}
 use Rattle.supplement.specs.declared.Supplement.{Supplement}
-use Rattle.days.specs.Run.{Code, upto0, code_of, goes_on, follows, allowed, eights, stopped, stop, codes_of, mask_of, days_at, set_of, no_days, concluded, answers_in, answered}
+use Rattle.days.specs.Run.{Code, upto0, columns, six_of, code_of, goes_on, follows, allowed, eights, stopped, stop, codes_of, mask_of, days_at, set_of, no_days, concluded, answers_in, answered}
 use Rattle.days.specs.declared.Date.{Date}
 use Rattle.days.specs.declared.Halt.{Halt}
 use Rattle.days.specs.declared.Last.{Last}
 use Rattle.days.specs.Code.Good.{code, Good}
-use Rattle.days.specs.Code.Walk.{columns, six_of, Told, HasText, IsDate, Dated, may_follow, halt, step_at}
+use Rattle.days.specs.Code.Walk.{Told, HasText, IsDate, Dated, may_follow, halt, step_at}
 use Rattle.days.proofs.Under.{last_most}
 use Rattle.days.proofs.Rising.{mask_below, mask_append}
 use Rattle.days.proofs.Named.{Goods, goods_append, days_same, days_other, days_none, days_append, rise, length-set, set_at}

@@ -4,6 +4,7 @@ use Rattle.std.specs.Prelude.{ℕ, zero, suc, ◌+◌, ◌-◌, ◌/◌, ◌%◌
 use Rattle.cells.specs.Test.{Answer, took, refused}
 use Rattle.supplement.specs.Supplement.{read_supplement}
 use Rattle.supplement.specs.declared.Supplement.{Supplement}
+use Rattle.supplement.specs.declared.Days.{Days}
 use Rattle.days.specs.declared.DaySet.{DaySet}
 use Rattle.days.specs.declared.Halt.{Halt}
 use Rattle.days.specs.declared.Last.{Last}
@@ -18,9 +19,17 @@ unfoldable pub upto0 : List ℕ → List ℕ
 upto0 [] = []
 upto0 (d ∷ ds) = cond (eqb d 0) [] (d ∷ upto0 ds)
 
+-- The six columns of a code's days,
+abbrev pub columns : Days → List ℕ
+columns x = x.d1 ∷ x.d2 ∷ x.d3 ∷ x.d4 ∷ x.d5 ∷ x.d6 ∷ []
+
+-- and the days.
+abbrev pub six_of : Days → List ℕ
+six_of x = upto0 (columns x)
+
 -- The D code that a record is.
 abbrev pub code_of : Supplement → Code
-code_of x = record { month = x.month; days = upto0 (x.days.d1 ∷ x.days.d2 ∷ x.days.d3 ∷ x.days.d4 ∷ x.days.d5 ∷ x.days.d6 ∷ []) }
+code_of x = record { month = x.month; days = six_of x.days }
 
 -- "Distance ahead of the issue month, 0 to 11."
 unfoldable pub distance : ℕ → ℕ → ℕ

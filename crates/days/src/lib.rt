@@ -3,9 +3,9 @@
 
 ghost use Rattle.std.specs.Prelude.{◌≡◌, [], ◌+◌, ◌%◌, ◌^◌, ◌≤◌, ◌<◌, length, get_or, take, drop, set};
 ghost use Rattle.supplement.specs.Supplement.{read_supplement, said as said_of};
-ghost use Rattle.days.specs.Run.{distance as distance_of, mask_of as mask_of_days, last_date, goes_on as goes_on_of, stop, answers_in, codes_of, set_of, concluded, read_run, answered};
+ghost use Rattle.days.specs.Run.{columns, six_of, distance as distance_of, mask_of as mask_of_days, last_date, goes_on as goes_on_of, stop, answers_in, codes_of, set_of, concluded, read_run, answered};
 ghost use Rattle.days.specs.Code.Good.{code, Good};
-ghost use Rattle.days.specs.Code.Walk.{columns, six_of, Told, HasText, Dated, may_follow, step_at};
+ghost use Rattle.days.specs.Code.Walk.{Told, HasText, Dated, may_follow, step_at};
 
 use cells::Fault;
 use supplement::{Days, Supplement};

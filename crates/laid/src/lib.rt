@@ -130,9 +130,11 @@ fn copy(out: &mut [u8], at: usize, s: &[u8]) -> usize
     requires { at + length s.now ≤ length out.old }
     ensures { (out.new ≡ sets out.old at s.now) × (result ≡ at + length s.now) }
 {
-    let end = at + s.len();
-    out[at..end].copy_from_slice(s);
-    end
+    // Kept: by `copy_from_slice` the archive for C would want `memmove` from outside.
+    for i in 0..s.len() {
+        out[at + i] = s[i];
+    }
+    at + s.len()
 }
 
 // Puts a number's digits, from the last to the first.

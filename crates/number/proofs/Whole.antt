@@ -80,7 +80,7 @@ module _ (lo hi : ℕ) (s : List ℕ) where
   unfolding read_number within
   number_some h = rw h
 
-  number_empty : length s ≡ 0 → read_number lo hi s ≡ none
+  pub number_empty : length s ≡ 0 → read_number lo hi s ≡ none
   number_empty h = number_none (shortest_none s h)
 
   module _ (h : length s ≡ 0 → ⊥) where
@@ -109,7 +109,7 @@ module _ (lo hi : ℕ) (s : List ℕ) where
         (λ f. number_no_digit e f)
 
   -- a number of more than five digits is out of range
-  number_long : hi < 65536 → 5 < length s → read_number lo hi s ≡ none
+  pub number_long : hi < 65536 → 5 < length s → read_number lo hi s ≡ none
   unfolding read_number
   number_long h l =
       split (shortest s)

@@ -123,7 +123,7 @@ fn fraction(s: &[u8]) -> bool
 {
     match s {
         [] => false,
-        [.., last] => (s.len() <= 5) & (figures(s) & (*last != b'0')),
+        [.., last] => s.len() <= 5 && (figures(s) & (*last != b'0')),
     }
 }
 

@@ -88,7 +88,9 @@ fn tell_read(rt: &impl Print, s: &[u8], asked: Asked, again: &mut Again) {
 fn write_again(rt: &impl Print, s: &[u8]) {
     let mut again = [0u8; 16384];
     let n = rewriter::rewrite(s, &mut again);
-    let same = n == s.len() && again.starts_with(s);
+    let same = again
+        .get(..n)
+        .is_some_and(|written| cells::same_bytes(s, written));
     streams::write_all(
         rt,
         if same {

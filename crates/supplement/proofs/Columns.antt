@@ -18,7 +18,7 @@ use Rattle.cells.proofs.Alike.{byte, each}
 use Rattle.cells.proofs.Bridge.{value_digit}
 use Rattle.cells.specs.declared.Fault.{Fault}
 use Rattle.supplement.specs.Amount.{figures, Seen, nothing, lone, whole, point, decimals, end, may, next, columns, figures_of, decimals_of, places_of}
-use Rattle.supplement.specs.Code.Read.{with_figure, counted, places_from, amount_of}
+use Rattle.supplement.specs.Code.Read.{with_figure, counted, places_from, amount_of, Left}
 use Rattle.supplement.proofs.Sets.{joined, in_left, apart}
 
 -- the digits
@@ -142,12 +142,6 @@ no_places whole i s = refl
 no_places point i s = refl
 no_places decimals i s = refl
 no_places end i s = refl
-
--- the columns from offset i on, after what has been seen, with the number and the places so far, are what is left of an amount
-pub record Left (s : List ℕ) (i : ℕ) (seen : Seen) (n p : ℕ) : Type 0 where
-  pub tests : first (cells (8 - i) i (columns seen (8 - i) i s) s) ≡ first (cells 6 2 (columns nothing 6 2 s) s)
-  pub figures : figures_of n (8 - i) i s ≡ figures_of 0 6 2 s
-  pub places : (first (cells 6 2 (columns nothing 6 2 s) s)).number ≡ 0 → p + places_from seen (8 - i) i s ≡ places_of 6 2 s
 
 module _ (s : List ℕ) (i : ℕ) (seen : Seen) (n p : ℕ) (left : Left s i seen n p) where
   pub none_left : 8 ≤ i → took (record { figures = n; places = p }) ≡ judge (first (cells 6 2 (columns nothing 6 2 s) s)) (amount_of s)

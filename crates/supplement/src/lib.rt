@@ -7,7 +7,7 @@ ghost use Rattle.cells.specs.Test.{test, first, passes, judge};
 ghost use Rattle.cells.specs.Cells.{char, upto, cells as cells_of};
 ghost use Rattle.supplement.specs.Supplement.{to31, last_day, interval_cells, week_cells, empty_week, more_days, date_cells, count_cells, amount_cells, tests, saying, no_week, no_days, week_of, days_of, says as says_of, read_supplement, said};
 ghost use Rattle.supplement.specs.Amount.{figures as figure_set, nothing, may as may_of, next as next_of, columns, figures_of, places_of};
-ghost use Rattle.supplement.specs.Code.Read.{day_count, told, with_figure, counted as counted_of, amount_of, said_amount};
+ghost use Rattle.supplement.specs.Code.Read.{day_count, told, with_figure, counted as counted_of, amount_of, said_amount, Left};
 
 use cells::Fault;
 
@@ -195,26 +195,42 @@ fn counted(seen: Seen) -> u8
     }
 }
 
+// Reads an amount over the columns left, from `at` on, after what has been seen so far: what it was, its digits and its places.
+fn amount_from(
+    s: &[u8; 8],
+    at: usize,
+    seen: Seen,
+    figures: u32,
+    places: u8,
+) -> Result<Amount, Fault>
+    requires { (2 ≤ at) × (at ≤ 8) × (figures < 10 ^ (at - 2)) × (places ≤ at) × Left s.now at (told seen) figures places }
+    ensures { said_amount result ≡ judge (first (cells_of 6 2 (columns nothing 6 2 s.now) s.now)) (amount_of s.now) }
+{
+    if at == 8 {
+        return Ok(Amount { figures, places });
+    }
+    let c = s[at];
+    if !may(seen, 7 - at, c) {
+        return Err(Fault {
+            number: 5,
+            place: at + 1,
+        });
+    }
+    let then = next(seen, c);
+    amount_from(
+        s,
+        at + 1,
+        then,
+        with_figure(figures, c),
+        places + counted(then),
+    )
+}
+
 // Reads the six columns of an amount.
 fn read_amount(s: &[u8; 8]) -> Result<Amount, Fault>
     ensures { said_amount result ≡ judge (first (cells_of 6 2 (columns nothing 6 2 s.now) s.now)) (amount_of s.now) }
 {
-    let mut seen = Seen::Nothing;
-    let mut figures: u32 = 0;
-    let mut places: u8 = 0;
-    for at in 2..8 {
-        let c = s[at];
-        if !may(seen, 7 - at, c) {
-            return Err(Fault {
-                number: 5,
-                place: at + 1,
-            });
-        }
-        seen = next(seen, c);
-        figures = with_figure(figures, c);
-        places += counted(seen);
-    }
-    Ok(Amount { figures, places })
+    amount_from(s, 2, Seen::Nothing, 0, 0)
 }
 
 // A code of which only the letter is known.

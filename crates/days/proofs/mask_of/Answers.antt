@@ -1,9 +1,8 @@
 -- What is left of the days: those from column k on, up to the first 0.
 -- Assumes nothing.
 use Rattle.std.proofs.Common.{arith}
-use Rattle.days.specs.Run.{upto0}
+use Rattle.days.specs.Run.{upto0, columns, six_of}
 use Rattle.std.proofs.Common.{drop}
-use Rattle.days.specs.Code.Walk.{columns, six_of}
 use Rattle.days.proofs.Walk.{upto_stop, upto_end, left_end, bit, day_fits, day_next}
 use Rattle.days.proofs.mask_of.Goals as goal
 

@@ -1,8 +1,7 @@
 -- What is left of the days: those from column k on, up to the first 0.
 -- Assumes nothing.
 use Rattle.std.proofs.Common.{drop}
-use Rattle.days.specs.Run.{upto0}
-use Rattle.days.specs.Code.Walk.{columns, six_of}
+use Rattle.days.specs.Run.{upto0, columns, six_of}
 use Rattle.days.proofs.Walk.{Left}
 use Rattle.days.proofs.mask_of.Given as goal
 

@@ -1,22 +1,13 @@
 -- A run read code by code: a code as numbers, whether it may follow the one before it, and what stops the run at it.
 -- Assumes nothing.
-use Rattle.std.specs.Prelude.{ℕ, ◌≡◌, Bool, true, false, cond, List, [], ◌∷◌, eqb, get_or, Option, Some, None, Result, Ok, Err}
+use Rattle.std.specs.Prelude.{ℕ, ◌≡◌, Bool, true, false, cond, List, eqb, get_or, Option, Some, None, Result, Ok, Err}
 use Rattle.cells.specs.Test.{Answer, took, refused, fault}
 use Rattle.supplement.specs.Supplement.{read_supplement, said}
 use Rattle.supplement.specs.declared.Supplement.{Supplement}
-use Rattle.supplement.specs.declared.Days.{Days}
-use Rattle.days.specs.Run.{Code, code_of, upto0, mask_of, last_date, goes_on}
+use Rattle.days.specs.Run.{Code, code_of, mask_of, last_date, goes_on}
 use Rattle.days.specs.declared.Date.{Date}
 use Rattle.days.specs.declared.Halt.{Halt}
 use Rattle.cells.specs.declared.Fault.{Fault}
-
--- The six columns of a code that was read.
-abbrev pub columns : Days → List ℕ
-columns x = x.d1 ∷ x.d2 ∷ x.d3 ∷ x.d4 ∷ x.d5 ∷ x.d6 ∷ []
-
--- Its days.
-abbrev pub six_of : Days → List ℕ
-six_of x = upto0 (columns x)
 
 -- The numbers of a D code.
 pub record Told (c : Code) (d : Date) : Type 0 where

@@ -1,10 +1,11 @@
 -- What the parts of the reader answer.
 -- Assumes nothing.
-use Rattle.std.specs.Prelude.{ℕ, zero, suc, ◌+◌, ◌*◌, cond, List, eqb, get_or, Err, Ok, Result}
+use Rattle.std.specs.Prelude.{ℕ, zero, suc, ◌+◌, ◌-◌, ◌*◌, ◌≡◌, cond, List, eqb, get_or, Err, Ok, Result}
 use Rattle.cells.specs.Text.{among, digit}
-use Rattle.cells.specs.Test.{Answer, took, refused}
+use Rattle.cells.specs.Test.{Answer, took, refused, first}
+use Rattle.cells.specs.Cells.{cells}
 use Rattle.cells.specs.declared.Fault.{Fault}
-use Rattle.supplement.specs.Amount.{figures, Seen, nothing, lone, whole, point, decimals, end, figures_of, decimals_of, places_of}
+use Rattle.supplement.specs.Amount.{figures, Seen, nothing, lone, whole, point, decimals, end, columns, figures_of, decimals_of, places_of}
 use Rattle.supplement.specs.declared.Amount.{Amount}
 use Rattle.supplement.specs.declared.Seen
 use Rattle.supplement.specs.declared.Seen.TheVariants.{Nothing, Lone, Whole, Point, Decimals, End}
@@ -48,6 +49,12 @@ places_from end k i s = 0
 -- what the columns of an amount read as
 abbrev pub amount_of : List ℕ → Amount
 amount_of s = record { figures = figures_of 0 6 2 s; places = places_of 6 2 s }
+
+-- The columns from offset i on, after what has been seen, with the number and the places so far, are what is left of an amount.
+pub record Left (s : List ℕ) (i : ℕ) (seen : Seen) (n p : ℕ) : Type 0 where
+  pub tests : first (cells (8 - i) i (columns seen (8 - i) i s) s) ≡ first (cells 6 2 (columns nothing 6 2 s) s)
+  pub figures : figures_of n (8 - i) i s ≡ figures_of 0 6 2 s
+  pub places : (first (cells 6 2 (columns nothing 6 2 s) s)).number ≡ 0 → p + places_from seen (8 - i) i s ≡ places_of 6 2 s
 
 -- document 01's number and values of an amount's answer
 abbrev pub said_amount : Result Amount Fault → Answer Amount

@@ -1,9 +1,13 @@
 -- What is written is read back and compared, by `Writing`.
-use mathlib.Core.Path.{◌≡◌, ◌∙◌, ap}
+use Prim.Native.Nat.{ℕ}
+use mathlib.Core.Path.{◌≡◌, ◌∙◌, sym, ap, subst}
 use mathlib.Core.Bool.{true}
+use mathlib.Core.List.{List}
+use Rattle.std.specs.Prelude.{Ok}
 use Rattle.usage.specs.Usage.{read_usage}
 use borrow.Author.Rules.{rules}
 use Rattle.cells.proofs.Same.{itself}
+use Rattle.usage_writer.specs.Writes.{WritesUsage}
 use Rattle.usage_writer.proofs.Writing.{written, unwritten}
 use Rattle.usage_writer.proofs.write.Goals as goal
 
@@ -22,4 +26,5 @@ returns-in_default-2 c =
 pub returns-in-Ok : goal.returns-in-Ok
 returns-in-Ok c =
     let q : c.in-Ok.j ≡ c.args.i = search rules in
-    rw c.raw-code.ensures (written c.args.i c.read.result (c.read.ensures ∙ ap read_usage c.raw-code.ensures) c.in-Ok.j c.in-Ok.is q)
+    let w = written c.args.i c.read.result (c.read.ensures ∙ ap read_usage c.raw-code.ensures) c.in-Ok.j c.in-Ok.is q in
+    subst (λ (code : List ℕ). WritesUsage c.args.i (Ok code)) (sym c.raw-code.ensures) w

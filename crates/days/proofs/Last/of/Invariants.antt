@@ -1,6 +1,6 @@
 -- What has been seen of the columns (`Seen`).
 -- Assumes nothing.
-use Rattle.days.specs.Code.Walk.{columns}
+use Rattle.days.specs.Run.{columns}
 use Rattle.days.proofs.Ends.{Seen}
 use Rattle.days.proofs.Last.of.Given as goal
 
