@@ -1,14 +1,15 @@
 -- What is left to put is the bytes from i on.
-use Prim.Native.Nat.{◌+◌}
-use mathlib.Core.Path.{refl, ◌∙◌, sym}
+use Prim.Native.Nat.{ℕ, ◌+◌}
+use mathlib.Core.Path.{refl, ◌∙◌, sym, ap}
 use native.Mathlib.Omega.{arith}
 use native.Mathlib.Nat.{add-zero}
+use lib.Seq.{sets}
 use lib.ListN.{length-set}
 use Rattle.laid.proofs.Along.{copy_next, copy_end}
 use Rattle.laid.proofs.copy.Goals as goal
 
 pub loop-i-init : goal.loop-i-init
-loop-i-init c = (refl, rw add-zero)
+loop-i-init c = (refl, ap (λ (k : ℕ). sets c.args.out.now k c.args.s.now) (add-zero c.args.at))
 
 pub bounds-out-at : goal.bounds-out-at
 bounds-out-at c = omega (arith, c.loop-i.invariant.0, c.requires)
